@@ -6,10 +6,12 @@ PROGRAM is npss, with which the judge replays. The nodes are processes of their 
 13.0, 14.0 and 15.0 of the published files, the earlier two cut from the last. Each ends itself at a write to store or
 log that the seed draws; a Redis server is killed and started again, and nodes are cut off from it by a proxy that drops;
 nodes are upgraded in any order; names are claimed at all nodes at once, given up, and claimed again. Names with young
-code points are claimed at nodes that have them, and old ones of the same keys at nodes that don't. At the end the judge
-has to be silent; nodes that read to the end register the same; each key has one holder; no name that was answered
-`registered`, with no forget behind it, is missing; each key is what PROGRAM makes under the last version; and a log that
-lost its tail is refused.
+code points are claimed at nodes that have them, and old ones of the same keys at nodes that don't. Meanwhile and at the
+end the judge has to be silent. At the end nodes that read on register the same, each key has one holder and is what PROGRAM
+makes under the last version, and what was answered over time can be (chaos_history.py): each key has one holder at each
+moment, what was answered `registered` isn't gone without a forget, and who claimed finds it at the same node. Then come the
+log's own faults (chaos_log.py): relog that is killed and called again while a node goes on, a tail that was cut off and
+grown again with the same claims, a log that is brought back older, and one that lost its last record.
 Prints its seed. Ends in a line 'N passed, M failed'. The modules npss and npss_registry are on PYTHONPATH.
 """
 
@@ -19,7 +21,6 @@ import json
 import random
 import shutil
 import signal
-import socket
 import sqlite3
 import subprocess
 import sys
@@ -31,6 +32,9 @@ from pathlib import Path
 import ucd
 from harness import Tally
 
+from chaos_history import History, keys_of, try_checker
+from chaos_log import check_log_faults
+from chaos_servers import Proxy, Server
 from npss_registry import LogAway, LogBroken, Registry, Version, init
 from npss_registry.judge import Judge
 from npss_registry.logs import open_log
@@ -53,77 +57,6 @@ PAIRS = [(1, "\uA7F2", "C"), (1, "\U00010783", "\u00e6"), (1, "x\U000107A5\u0301
 LAST = 10
 
 
-class Proxy:
-    """Hands bytes on to a server, and drops each connection while it is cut."""
-
-    def __init__(self, port):
-        self.to = port
-        self.cut = False
-        self._open = set()
-        self._listener = socket.create_server(("127.0.0.1", 0))
-        self.port = self._listener.getsockname()[1]
-        threading.Thread(target=self._serve, daemon=True).start()
-
-    def _serve(self):
-        while True:
-            try:
-                near, _ = self._listener.accept()
-                if self.cut:
-                    near.close()
-                    continue
-                far = socket.create_connection(("127.0.0.1", self.to), timeout=2)
-                far.settimeout(None)  # a slow answer isn't a cut
-            except OSError:
-                continue
-            for one, other in ((near, far), (far, near)):
-                self._open.add(one)
-                threading.Thread(target=self._pass, args=(one, other), daemon=True).start()
-
-    def _pass(self, one, other):
-        try:
-            while (piece := one.recv(65536)) and not self.cut:
-                other.sendall(piece)
-        except OSError:
-            pass
-        for end in (one, other):
-            end.close()
-            self._open.discard(end)
-
-    def drop(self, cut):
-        """Cuts the way, or lets it be."""
-        self.cut = cut
-        for end in list(self._open) if cut else ():
-            try:
-                end.shutdown(socket.SHUT_RDWR)
-            except OSError:
-                pass
-
-
-class Server:
-    """A Redis server that is killed and started again."""
-
-    def __init__(self, folder):
-        with socket.create_server(("127.0.0.1", 0)) as free:
-            self.port = free.getsockname()[1]
-        self._words = ["redis-server", "--port", str(self.port), "--bind", "127.0.0.1", "--dir", str(folder), "--appendonly", "yes",
-                       "--appendfsync", "always", "--save", "", "--logfile", str(folder / "redis.log")]
-        self.start()
-
-    def start(self):
-        self._process = subprocess.Popen(self._words, stdout=subprocess.DEVNULL, stderr=subprocess.DEVNULL)
-        for _ in range(200):
-            try:
-                socket.create_connection(("127.0.0.1", self.port), timeout=1).close()
-                return
-            except OSError:
-                time.sleep(0.05)
-        raise RuntimeError("the Redis server doesn't start")
-
-    def kill(self):
-        self._process.kill()
-        self._process.wait()
-
-
 class Told:
     """What nodes answered, for the end: each name that is registered for sure, and each that may have been given up."""
 
@@ -133,6 +66,7 @@ class Told:
         self.forgets = []
         self.broken = []
         self.ends = 0
+        self.history = History()
 
     def end(self, status):
         """How a node ended: as it was asked, at a write, or since the log was away."""
@@ -140,7 +74,8 @@ class Told:
             if status not in (0, 9, 5):
                 self.broken.append(f"a node ended with status {status}")
 
-    def add(self, asked, answer):
+    def add(self, node, begun, asked, answer):
+        self.history.add(node, (begun, time.monotonic()), asked, answer)
         with self._lock:
             if asked["do"] == "forget" and (answer is None or answer["what"] != "not registered"):
                 self.forgets.append(asked["name"])
@@ -162,6 +97,8 @@ class Node(threading.Thread):
         self.source = random.Random(seed)
         self.version = number % len(AGES)
         self.process = None
+        # What was registered at this node.
+        self.mine = []
         # When the node goes on to each version that it has not yet; some do only in the end.
         self.upgrades = sorted(chaos.begin + self.source.uniform(0.2, 1.4) * chaos.seconds for _ in AGES[self.version + 1:])
 
@@ -177,13 +114,16 @@ class Node(threading.Thread):
 
     def ask(self, asked):
         """The answer; None where the node ended meanwhile."""
+        begun = time.monotonic()
         try:
             self.process.stdin.write(json.dumps(asked) + "\n")
             self.process.stdin.flush()
             answer = self.read()
         except (BrokenPipeError, ValueError):
             answer = None
-        self.chaos.told.add(asked, answer)
+        self.chaos.told.add(self.number, begun, asked, answer)
+        if answer and answer["what"] == "registered" and asked["do"] == "claim":
+            self.mine.append(asked["name"])
         return answer
 
     def stop(self):
@@ -210,8 +150,10 @@ class Node(threading.Thread):
         if chance < 0.76:
             registered = self.chaos.told.registered[-LAST:]
             return {"do": "forget", "name": source.choice(registered)[0] if registered and chance < 0.67 else name}
-        if chance < 0.92:
+        if chance < 0.86:
             return {"do": "read"}
+        if chance < 0.94:
+            return {"do": "find", "name": source.choice(self.mine[-LAST:] or [name])}
         return {"do": "same", "left": name, "right": source.choice(self.chaos.pool)}
 
     def paired(self):
@@ -260,7 +202,8 @@ class Chaos:
         drawn = self.source.choice(("nfc", "nfkc"))
         setup = Setup(words.form or drawn, self.source.choice((40, 65536)), self.source.choice((1, 3)), self.source.random() < 0.2)
         self.setup = setup
-        self.seconds, self.seed = words.seconds, words.seed
+        self.seconds, self.seed, self.program = words.seconds, words.seed, words.program
+        self.judged = 0
 
     def begin_nodes(self):
         """Makes the stores, and the nodes over them, whose time begins now."""
@@ -304,12 +247,27 @@ class Chaos:
                 self.server.kill()
                 time.sleep(self.source.uniform(0, 0.5))
                 self.server.start()
+            if self.source.random() < 0.15:
+                self.judge_meanwhile()
             for proxy in self.proxies:
                 proxy.drop(self.source.random() < 0.15)
         for proxy in self.proxies:
             proxy.drop(False)
         for node in self.nodes:
             node.join()
+
+
+    def judge_meanwhile(self):
+        """The judge has to be silent while nodes work, end and are upgraded."""
+        try:
+            judge = Judge([str(self.store(number)) for number in range(NODES)], self.program)
+            try:
+                self.told.broken += judge.run()
+            finally:
+                judge.close()
+            self.judged += 1
+        except LogAway:
+            pass  # the way was cut
 
 
 def finished(chaos):
@@ -331,30 +289,47 @@ def finished(chaos):
 
 def check_lost_tail(tally, chaos):
     """A log that lost its last record, or has another one in its place, is not read on. What is done here is not mended."""
-    log = open_log(chaos.log(0))
-    last = max(range(chaos.setup.shards), key=log.last)
-    place = log.last(last)
+    node = Registry(str(chaos.store(1)))
+    name = node.store.log
+    node.close()
+    log = open_log(name)
+    lasts = log.lasts(chaos.setup.shards)
     log.close()
+    place = max(lasts)
     if chaos.server:
         import redis
 
-        redis.Redis(port=chaos.server.port).xdel(f"chaos:{last}", f"0-{place}")
+        redis.Redis(port=chaos.server.port).xdel(f"{name.partition('#')[2]}:{lasts.index(place)}", f"0-{place}")
     else:
-        with contextlib.closing(sqlite3.connect(chaos.log(0))) as base, base:
+        with contextlib.closing(sqlite3.connect(name)) as base, base:
             base.execute("UPDATE record SET body = ? WHERE place = ?", (spelled(Forget("another", 1)), place))
     try:
-        Registry(str(chaos.store(0))).abandon()
+        Registry(str(chaos.store(1))).abandon()
         tally.check("a log that lost its tail is refused", False, "it is read on")
     except LogBroken as error:
         tally.same("the place of the loss", error.place, place)
 
 
-def check_keys(tally, chaos, rows, program):
-    """Each key is what the program makes of its string, under the last version."""
+def lines_of(chaos, names, program):
+    """What the program npss_lines makes of names, under the last version."""
     lines = Path(program).resolve().parents[2] / "npss_lines" / "out" / "npss_lines"
-    text = b"".join(row[1].encode() + b"\0" for row in rows)
-    ran = subprocess.run([lines, "--null", "--form", chaos.setup.form, *chaos.files[-1]], input=text, stdout=subprocess.PIPE, check=False)
-    tally.same("each key is its string's", ran.stdout, b"".join(b"=" + row[2].encode() + b"\0" for row in rows))
+    text = b"".join(name.encode() + b"\0" for name in names)
+    words = [lines, "--null", "--form", chaos.setup.form, *chaos.files[-1]]
+    return subprocess.run(words, input=text, stdout=subprocess.PIPE, check=False).stdout
+
+
+def check_keys(tally, chaos, rows, program):
+    """Each key is what the program makes of its string."""
+    tally.same("each key is its string's", lines_of(chaos, [row[1] for row in rows], program), b"".join(b"=" + row[2].encode() + b"\0" for row in rows))
+
+
+def check_history(tally, chaos, rows, program):
+    """What was answered over time can be."""
+    history = chaos.told.history
+    names = history.names()
+    keys = keys_of(names, lines_of(chaos, names, program))
+    if tally.check("each name that was answered has a key", keys is not None, names[:5]):
+        tally.same("what was answered over time", history.violations(keys, chaos.setup.equivalents, {row[1]: row[3] for row in rows}), [])
 
 
 def check(tally, chaos, program):
@@ -368,15 +343,16 @@ def check(tally, chaos, program):
     tally.same("nothing is parked under the last version", [row for row in rows[0] if row[4]], [])
     keys = [row[2] for row in rows[0]]
     tally.check("each key has one holder", chaos.setup.equivalents or len(set(keys)) == len(keys), "two have one key")
-    owners = {row[1]: row[3] for row in rows[0]}
-    lost = [name for name, owner in chaos.told.registered if name not in chaos.told.forgets and owners.get(name) != owner]
-    tally.same("what was answered as registered", lost, [])
     check_keys(tally, chaos, rows[0], program)
+    check_history(tally, chaos, rows[0], program)
     judge = Judge([str(chaos.store(number)) for number in range(NODES)], program)
     tally.same("the judge", judge.run(), [])
     judge.close()
+    check_log_faults(tally, chaos, program)
     check_lost_tail(tally, chaos)
-    print(f"{judge.events} events replayed, {len(rows[0])} names registered, {chaos.told.ends} times a node ended itself")
+    answers = chaos.told.history
+    print(f"{len(answers.registered)} claims answered registered, {len(answers.forgotten)} forgets, {len(answers.found)} names found at their node")
+    print(f"{chaos.judged} times judged meanwhile; in the end {judge.events} events replayed, {len(rows[0])} names registered, {chaos.told.ends} times a node ended itself")
 
 
 def main():
@@ -390,6 +366,7 @@ def main():
     print(f"seed {words.seed}, {words.seconds} seconds over {words.log}", flush=True)
     signal.signal(signal.SIGTERM, lambda *_: sys.exit(143))
     tally = Tally()
+    try_checker(tally)
     with tempfile.TemporaryDirectory() as name:
         chaos = Chaos(Path(name), words)
         try:

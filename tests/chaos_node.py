@@ -15,7 +15,7 @@ from contextlib import contextmanager, suppress
 from npss import Refused
 from npss_registry import LogAway, LogBroken, NotOneChain, Version
 from npss_registry.logs import RedisLog, SqliteLog
-from npss_registry.records import Forget, read
+from npss_registry.records import Forget, read, spelled
 from npss_registry.registry import Registry
 from npss_registry.store import Store
 
@@ -41,31 +41,38 @@ class Ends:
 REPEATED = 0.2
 
 
-def hooked(ends, source):
+def hooked(ends, source, repeated=REPEATED):
     """Store and logs whose writes are counted."""
-    commit, appends = Store.transaction, {log: log.append for log in (SqliteLog, RedisLog)}
+    commit, appends = Store.transaction, {log: (log.append, log.begin) for log in (SqliteLog, RedisLog)}
 
     @contextmanager
     def transaction(self):
         with ends.write(), commit(self):
             yield
 
-    def append_of(log):
+    def append_of(call):
         forgets = []
 
         def append(self, records):
             with ends.write():
-                places = appends[log](self, records)
-            forgets.extend(one for one in records if isinstance(read(0, one[1]), Forget))
-            if forgets and source.random() < REPEATED:
+                places = call(self, records)
+            forgets.extend((shard, record) for shard, body in records if isinstance(record := read(0, body), Forget))
+            if forgets and source.random() < repeated:
+                shard, forget = source.choice(forgets)
                 with ends.write(), suppress(LogAway):
-                    appends[log](self, [source.choice(forgets)])
+                    call(self, [(shard, spelled(forget))])
             return places
         return append
 
+    def begin_of(call):
+        def begin(self, records):
+            with ends.write():
+                call(self, records)
+        return begin
+
     Store.transaction = transaction
-    for log in appends:
-        log.append = append_of(log)
+    for log, (append, begin) in appends.items():
+        log.append, log.begin = append_of(append), begin_of(begin)
 
 
 def outcome(told):
@@ -83,6 +90,8 @@ def done(registry, asked):
     if what == "read":
         registry.catch_up()
         return {"what": "read"}
+    if what == "find":
+        return {"what": "found", "holders": [(row.string, row.owner) for row in registry.find(asked["name"])]}
     if what == "same":
         registry.catch_up()
         return {"what": str(registry.same(asked["left"], asked["right"]))}

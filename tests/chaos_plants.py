@@ -2,8 +2,9 @@
 """tests/chaos_plants.py [--seconds N] [NAME..] PROGRAM: plants bugs into the registry, and sees that chaos finds each.
 
 Each bug is one edit of a copy of hosts/registry. Chaos runs over the copy, over a SQLite file and over a Redis server,
-under NFC and NFKC in turn, half a minute each, until it fails or N seconds are over, 180 where nobody says otherwise. First it runs over the registry
-as it is, and has to pass. On demand: not called by ./test. Ends in a line 'N passed, M failed'.
+under NFC and NFKC in turn, half a minute each, until it fails or N seconds are over, 180 where nobody says otherwise. First it
+runs over the registry as it is, and has to pass. What chaos doesn't do is found by a test of the registry's own. On demand:
+not called by ./test. Ends in a line 'N passed, M failed'.
 """
 
 import argparse
@@ -28,16 +29,19 @@ PLANTS = {
 """, """                for number, piece in pieces.items():
                     for one in piece:
                         with self._writing():
-                            self.store.applied(number, one[0], records.sum_of(one[1]))
+                            self.store.applied(number, one[0], records.sum_of(one[1]), records.sum_behind(self.shards[number]._sum, one[0], records.sum_of(one[1])))
                         with self._writing():
                             for place, outcome in self.shards[number].apply([one]).items():
                                 outcomes[number, place] = outcome
 """),
-    "the place is written before its records": ("shards.py", """        outcomes = {}
+    "the place is written before its records": ("shards.py", """        outcomes: dict[int, Outcome] = {}
         for place, body in piece:
-""", """        outcomes = {}
+""", """        outcomes: dict[int, Outcome] = {}
         if piece:
-            self._store.applied(self.number, piece[-1][0], records.sum_of(piece[-1][1]))
+            total = self._sum
+            for one in piece:
+                total = records.sum_behind(total, one[0], records.sum_of(one[1]))
+            self._store.applied(self.number, piece[-1][0], records.sum_of(piece[-1][1]), total)
             self._store._base.execute("COMMIT")
             self._store._base.execute("BEGIN IMMEDIATE")
             __import__("random").random() < 0.02 and __import__("os")._exit(9)
@@ -55,10 +59,37 @@ PLANTS = {
         if"""),
     "an image with the wrong place": ("shards.py", """self._store.save(self.number, self.node.image(), self.place, self._version)""",
                                       """self._store.save(self.number, self.node.image(), max(self.place - 1, 0), self._version)"""),
-    "the last record is not compared": ("shards.py", """(found is None or records.sum_of(found) != self._sum)""", """found is None"""),
-    "an answer before the record is read back": ("registry.py", """        told = self.catch_up({number for _, number, _ in publish})
+    "the last record is not compared": ("shards.py", """(found is None or records.sum_of(found) != self._last)""", """found is None"""),
+    "an answer before the record is read back": ("registry.py", """        told = self._read_on({number for _, number, _ in publish})
 """, """        return {index: Outcome("registered") for index, _, _ in publish}
 """),
+    "the random bytes are left out": ("records.py", """secrets.token_bytes(_NONCE)""", """bytes(_NONCE)"""),
+    "the running sum is begun anew": ("shards.py", """            self._sum = records.sum_behind(self._sum, place, self._last)
+""", """            self._sum = records.sum_behind(records.NOTHING_READ, place, self._last)
+"""),
+    "relog doesn't apply the new log": ("relog.py", """    while piece := shard.read():
+        shard.apply(piece)
+        shard.check_end()
+""", ""),
+    "relog writes no end": ("relog.py", """            _write_end(log, store.setup.shards, shown(self._target))
+""", ""),
+}
+# What chaos doesn't do, and the test of the registry's own that finds it.
+TESTED = {
+    "the log's name is not compared": ("registry.py", """        self._check_setup(setup_of(self.log, 0))
+""", """        self._check_setup(self.setup)
+""", "Setups.test_another_registrys_log_in_the_same_place"),
+    "a parked flag is not compared": ("judge.py", """            self._compare_parked(course, store)
+""", "", "Judging.test_a_parked_flag_is_compared"),
+    "a record is not examined that comes to taken": ("examine.py", """        if self._key(claim.string) not in (None, claim.key):
+""", """        if False:
+""", "Examined.test_a_wrong_key_of_a_claim_that_comes_to_taken"),
+    "a symbolic link is another store": ("store.py", """    file = os.path.realpath(path)
+""", """    file = os.path.abspath(path)
+""", "Restarts.test_a_symbolic_link_is_the_store"),
+    "a file of two names is two stores": ("lock.py", """        if found.st_nlink > 1:
+""", """        if False:
+""", "Restarts.test_no_other_name_of_a_store_gets_round_its_lock"),
 }
 
 
@@ -69,7 +100,7 @@ def copied(folder):
 
 def planted(folder, name):
     """A copy of the registry with a bug in it."""
-    file, old, new = PLANTS[name]
+    file, old, new = (PLANTS.get(name) or TESTED[name])[:3]
     copy = copied(folder)
     path = copy / "npss_registry" / file
     text = path.read_text(encoding="utf-8")
@@ -94,18 +125,32 @@ def found_after(copy, program, seconds):
     return None
 
 
+def test_fails(copy, program, test):
+    """Whether a test of the registry's own fails over a copy."""
+    environment = {**os.environ, "PYTHONPATH": f"{copy}:{os.environ.get('PYTHONPATH', '')}"}
+    words = [sys.executable, copy / "tests" / "test_registry.py", program, ROOT / "fixtures", test]
+    ran = subprocess.run(list(map(str, words)), env=environment, stdout=subprocess.PIPE, stderr=subprocess.STDOUT, text=True, check=False)
+    return ran.stdout.splitlines()[-1:] == ["0 passed, 1 failed"]
+
+
 def main():
     parser = argparse.ArgumentParser()
     parser.add_argument("--seconds", type=float, default=180)
-    parser.add_argument("--only", choices=list(PLANTS), action="append")
+    parser.add_argument("--only", choices=[*PLANTS, *TESTED], action="append")
     parser.add_argument("program", type=Path)
     words = parser.parse_args()
     tally = Tally()
     with tempfile.TemporaryDirectory() as folder:
-        found = found_after(copied(folder), words.program, 1)
+        found = None if words.only else found_after(copied(folder), words.program, 1)
         if not tally.check("no bug, no failure", found is None, found):
             tally.finish()
+    for name in words.only or TESTED:
+        if name in TESTED:
+            with tempfile.TemporaryDirectory() as folder:
+                tally.check(name, test_fails(planted(folder, name), words.program, TESTED[name][3]), f"{TESTED[name][3]} passes")
     for name in words.only or PLANTS:
+        if name in TESTED:
+            continue
         with tempfile.TemporaryDirectory() as folder:
             found = found_after(planted(folder, name), words.program, words.seconds)
         tally.check(name, found is not None and found[0] <= words.seconds, f"not found within {words.seconds} seconds")

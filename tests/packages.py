@@ -294,7 +294,7 @@ def check_python(tally, root, wheel, version):
 
 def check_registry(tally, root):
     """A registry over the package for Python, with the program as its judge."""
-    for words, wanted in ((["init", "/tmp/store", *FILES, "--form", "nfkc"], "form nfkc, room 65536, shards 1, equivalents refused\n"),
+    for words, wanted in ((["init", "/tmp/store", *FILES, "--form", "nfkc"], "form nfkc, room 65536, shards 1, equivalents refused, names of at most 1024 bytes\n"),
                           (["claim", "/tmp/store", TEXT, "--owner", "17"], None), (["find", "/tmp/store", COMPATIBLE], None),
                           (["check", "/tmp/store"], None)):
         status, written = root.run("npss-registry", *words)
@@ -318,9 +318,10 @@ def check_service(tally, root, room):
     root.run("chown", "-R", "nobody", f"/{STATE}", f"/{SECRETS}")
     line = re.search(r"^ExecStart=(.*)$", text, re.MULTILINE)[1]
     status, written = root.run("python3", "-c", SERVED, line, port, user="nobody", STATE_DIRECTORY=f"/{STATE}",
-                               CREDENTIALS_DIRECTORY=f"/{SECRETS}", OPTIONS=f"--port {port}")
-    tally.same("the line of the service", (status, written),
-               (0, f"npss-registry: /{STATE}/store at http://127.0.0.1:{port}/\n200 201 200\n0\n"))
+                               RUNTIME_DIRECTORY=f"/{SECRETS}", OPTIONS=f"--port {port}")
+    served, _, answered = written.partition("\n")
+    tally.check("the line of the service", served.startswith(f"npss-registry: serves /{STATE}/store at http://127.0.0.1:{port}/, one token; "), served)
+    tally.same("what the service answers", (status, answered), (0, "200 201 200\n0\n"))
     if not shutil.which("systemd-analyze"):
         print("skipped: what systemd says of the service: systemd-analyze not found")
         return

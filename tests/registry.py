@@ -3,9 +3,9 @@
 
 PROGRAM is npss. PREFIX is where ./build-c installed the library, that of this tree where none is named; the module npss is
 built over it. In turn: the registry's own tests; chaos over a SQLite file and over a Redis server, for N seconds together,
-60 where nobody says otherwise. Run as root it installs Debian's redis-server, python3-redis, python3-starlette,
-python3-uvicorn, mypy and chromium where they are missing, unless NO_APT=1 is set; what can't be had is skipped, with its
-name. Ends in a line 'N passed, M failed'.
+30 where nobody says otherwise, and behind each the log's own faults, which take some 10 seconds. Run as root it installs
+Debian's redis-server, python3-redis, python3-starlette, python3-uvicorn, python3-prometheus-client, mypy and chromium where
+they are missing, unless NO_APT=1 is set; what can't be had is skipped, with its name. Ends in a line 'N passed, M failed'.
 """
 
 import argparse
@@ -20,8 +20,8 @@ from pathlib import Path
 from harness import ROOT, Tally, install
 
 HOST = ROOT / "hosts" / "registry"
-PACKAGES = ("redis-server", "python3-redis", "python3-starlette", "python3-uvicorn", "mypy", "chromium")
-MODULES = "import redis, starlette, uvicorn"
+PACKAGES = ("redis-server", "python3-redis", "python3-starlette", "python3-uvicorn", "python3-prometheus-client", "mypy", "chromium")
+MODULES = "import prometheus_client, redis, starlette, uvicorn"
 SYSTEM_PYTHON = "/usr/bin/python3"
 
 
@@ -52,7 +52,7 @@ def main():
     parser = argparse.ArgumentParser()
     parser.add_argument("program", type=Path)
     parser.add_argument("prefix", nargs="?", type=Path, default=ROOT / "out" / "c")
-    parser.add_argument("--seconds", type=float, default=60)
+    parser.add_argument("--seconds", type=float, default=30)
     words = parser.parse_args()
     tally = Tally()
     if not (words.prefix / "lib" / "libnpss.a").exists() or not shutil.which("cc"):
@@ -62,7 +62,7 @@ def main():
         install(PACKAGES)
     python = with_modules()
     if python is None:
-        print("skipped: the registry over HTTP and over Redis: python3-redis, python3-starlette or python3-uvicorn is missing")
+        print("skipped: the registry over HTTP and over Redis: python3-redis, python3-starlette, python3-uvicorn or python3-prometheus-client is missing")
     python = python or sys.executable
     with tempfile.TemporaryDirectory() as site:
         build = [sys.executable, ROOT / "bindings" / "python" / "build.py", "--prefix", words.prefix, site]

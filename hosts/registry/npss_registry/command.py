@@ -1,21 +1,37 @@
 """The command `npss-registry`."""
 
 import argparse
+import contextlib
+import io
 import os
 import sys
-from collections.abc import Sequence
+import traceback
+from collections.abc import Callable, Sequence
+from dataclasses import replace
 from pathlib import Path
-from typing import Optional, Union
+from typing import Any, Optional, Union
 
+import npss
 from npss import BadTables, Refused
 
 from npss_registry import LogAway, Outcome, Registration, Registry, RegistryError, Version, init
-from npss_registry.judge import MOST_BYTES, MOST_EVENTS, Judge
+from npss_registry.errors import CannotServe, InUse, StoreAway, UnknownScheme
+from npss_registry.failures import modules, plainly
+from npss_registry.judge import Judge
+from npss_registry.logs import scheme_of
+from npss_registry.opening import opened
 from npss_registry.records import FORMS, Setup
+from npss_registry.records import MOST_BYTES as MOST_BYTES_OF_NAME
+from npss_registry.registry import MOST_SHARDS
+from npss_registry.registry import told as told_setup
 from npss_registry.relog import relog
+from npss_registry.replay import MOST_BYTES, MOST_EVENTS
+from npss_registry.store import Store
+from npss_registry.system_log import failed
 
 # The statuses are those of `npss` where they mean the same.
 DONE, NO, REFUSED, FAULTY, AWAY = 0, 1, 3, 4, 5
+INTERRUPTED = 130
 
 
 def version_of(data: str, exclusions: str) -> Version:
@@ -43,6 +59,29 @@ def owner_of(word: str) -> str:
     return word
 
 
+def log_of(word: str) -> str:
+    """A log as it was named."""
+    try:
+        scheme_of(word)
+    except UnknownScheme as error:
+        raise argparse.ArgumentTypeError(str(error)) from error
+    return word
+
+
+def between(least: int, most: int) -> Callable[[str], int]:
+    """What reads a number as it was typed, which has to be between two others."""
+    def number(word: str) -> int:
+        if not word.isdecimal() or not least <= int(word) <= most:
+            raise argparse.ArgumentTypeError(f"{word} is no number from {least} to {most}")
+        return int(word)
+    return number
+
+
+def _lowered(word: str) -> Any:
+    """A word of a few, in either case."""
+    return word.lower()
+
+
 def told(outcome: Outcome) -> str:
     """What became of a claim or a forget, as a line."""
     holder = outcome.holder
@@ -52,16 +91,17 @@ def told(outcome: Outcome) -> str:
 
 
 def row_of(found: Registration) -> str:
-    return f"{found.place}\t{found.string!r}\t{found.owner}" + ("\tparked" if found.parked else "")
+    """A registration as a line, with escapes where Python spells a text by some."""
+    return f"{found.place}\t{found.string!r}\t{repr(found.owner)[1:-1]}" + ("\tparked" if found.parked else "")
 
 
 def _init(words: argparse.Namespace) -> int:
     setup: Optional[Setup] = None
-    if any(value is not None for value in (words.form, words.room, words.shards)) or words.equivalents:
+    if any(value is not None for value in (words.form, words.room, words.shards, words.most_bytes)) or words.equivalents:
         setup = Setup(words.form or "nfc", 65536 if words.room is None else words.room, 1 if words.shards is None else words.shards,
-                      words.equivalents)
-    made = init(words.store, version_of(words.data, words.exclusions), setup, words.log or f"{words.store}.log")
-    print(f"form {made.form}, room {made.room}, shards {made.shards}, equivalents {'allowed' if made.equivalents else 'refused'}")
+                      words.equivalents, most_bytes=words.most_bytes or 0)
+    made = init(words.store, version_of(words.data, words.exclusions), setup, words.log or f"{os.path.basename(words.store)}.log")
+    print(told_setup(replace(made, name="")))
     return DONE
 
 
@@ -82,6 +122,8 @@ def _find(words: argparse.Namespace, registry: Registry) -> int:
     found = registry.find(name_of(words.name))
     for row in found:
         print(row_of(row))
+    if not found:
+        print("not registered")
     return DONE if found else NO
 
 
@@ -119,17 +161,23 @@ def _upgrade(words: argparse.Namespace, registry: Registry) -> int:
     return DONE
 
 
-def _backup(words: argparse.Namespace, registry: Registry) -> int:
-    registry.store.backup(words.to)
+def _backup(words: argparse.Namespace) -> int:
+    store = Store(words.store, read_only=True)
+    try:
+        store.backup(words.to)
+    finally:
+        store.close()
     return DONE
 
 
 def _relog(words: argparse.Namespace) -> int:
-    count, lost = relog(words.stores, words.log)
-    print(f"{count} strings are registered in the new log, {len(lost)} are lost")
-    for one in lost:
+    done = relog(words.stores, words.log, words.source)
+    for name in done.without_end:
+        print(f"the old log {name} can't be reached, and has no end: see that no other machine goes on over it")
+    print(f"{done.registered} strings are registered in the new log, {len(done.lost)} are lost")
+    for one in done.lost:
         print(f"lost from {one.store}: {row_of(one.registration)}")
-    return NO if lost else DONE
+    return NO if done.lost else DONE
 
 
 def _check(words: argparse.Namespace) -> int:
@@ -140,6 +188,8 @@ def _check(words: argparse.Namespace) -> int:
         judge.close()
     for finding in findings:
         print(finding)
+    if judge.unjudged:
+        print(f"{len(judge.unjudged)} names were compared with the log alone: no version of these stores has all their code points")
     print(f"{judge.events} events of {len(words.stores)} stores replayed: " + (f"{len(findings)} differ" if findings else "all as they are kept"))
     return NO if findings else DONE
 
@@ -147,6 +197,7 @@ def _check(words: argparse.Namespace) -> int:
 def parser() -> argparse.ArgumentParser:
     """The words of the command."""
     made = argparse.ArgumentParser(prog="npss-registry", description="A registry of names whose nodes run on several machines.")
+    made.add_argument("--version", action="version", version=f"npss-registry {npss.__version__}")
     commands = made.add_subparsers(dest="command", required=True, metavar="COMMAND")
 
     def command(name: str, help: str, *places: str) -> argparse.ArgumentParser:
@@ -156,10 +207,11 @@ def parser() -> argparse.ArgumentParser:
         return one
 
     one = command("init", "makes a store over a log, which it sets up where nobody has", "store", "data", "exclusions")
-    one.add_argument("--log", help="the path of a SQLite file, or redis://HOST:PORT/NUMBER#PREFIX; else STORE.log")
-    one.add_argument("--form", choices=FORMS, help="the form of the keys; nfc where nobody says otherwise")
-    one.add_argument("--room", type=int, help="the most strings of a shard, up to 65536")
-    one.add_argument("--shards", type=int, help="how many shards, up to 1024; never to be changed")
+    one.add_argument("--log", type=log_of, help="the path of a SQLite file, relative to the store's folder, or redis://HOST:PORT/NUMBER#PREFIX; else STORE.log")
+    one.add_argument("--form", type=_lowered, choices=FORMS, help="the form of the keys; nfc where nobody says otherwise")
+    one.add_argument("--room", type=between(0, 65536), help="the most strings of a shard, up to 65536")
+    one.add_argument("--shards", type=between(1, MOST_SHARDS), help="how many shards, up to 1024; never to be changed")
+    one.add_argument("--most-bytes", type=between(1, MOST_BYTES_OF_NAME), help="the most bytes of a name, up to 65536; 1024 where nobody says otherwise")
     one.add_argument("--equivalents", action="store_true", help="register equivalent strings side by side, as file names")
     one = command("claim", "registers a name for an owner", "store", "name")
     one.add_argument("--owner", type=owner_of, required=True)
@@ -171,13 +223,16 @@ def parser() -> argparse.ArgumentParser:
     command("status", "tells how far each shard was read, and what is parked", "store")
     command("upgrade", "goes on to a later version of Unicode", "store", "data", "exclusions")
     command("backup", "copies the store into a new file", "store", "to")
-    one = command("relog", "begins a new log from what stores have read, where the old one lost records")
+    one = command("relog", "brings stores over to another log, which begins with what they have read; once more where it was cut off")
     one.add_argument("stores", metavar="STORE", nargs="+")
-    one.add_argument("--log", required=True, help="the new log, as init names it")
+    one.add_argument("--log", type=log_of, required=True, help="the new log, as init names it")
+    one.add_argument("--from", dest="source", metavar="STORE", help="the store whose names are taken; else the one that has read farthest")
     one = command("serve", "serves the registry as JSON over HTTP, and as pages", "store")
     one.add_argument("--host", default="127.0.0.1", help="the address; else that of this machine alone")
-    one.add_argument("--port", type=int, default=8765)
-    one.add_argument("--token-file", help="a file whose first line has to come with each claim and forget; else none is taken")
+    one.add_argument("--port", type=int, default=8765, help="the port; 0 is one that is free")
+    one.add_argument("--token-file", help="a file with a line `[NAME] TOKEN [read-only]` for each token; without it nobody claims or forgets")
+    one.add_argument("--private", action="store_true", help="reading wants a token too, but for /health")
+    one.add_argument("--allow-host", action="append", default=[], metavar="HOST", help="another host that requests may name; may be repeated")
     one = command("check", "has `npss replay` judge what stores did")
     one.add_argument("stores", metavar="STORE", nargs="+")
     one.add_argument("--program", default="npss", help="the program npss")
@@ -187,7 +242,7 @@ def parser() -> argparse.ArgumentParser:
 
 
 RUNS = {"claim": _claim, "forget": _forget, "find": _find, "same": _same, "list": _list, "status": _status,
-        "upgrade": _upgrade, "backup": _backup}
+        "upgrade": _upgrade}
 
 
 def run(words: argparse.Namespace) -> int:
@@ -199,10 +254,10 @@ def run(words: argparse.Namespace) -> int:
     if words.command == "relog":
         return _relog(words)
     if words.command == "serve":
-        from npss_registry.server import serve
-
-        return serve(words.store, words.host, words.port, words.token_file)
-    registry = Registry(words.store)
+        return _serve(words)
+    if words.command == "backup":
+        return _backup(words)
+    registry = opened(words.store)
     try:
         status = RUNS[words.command](words, registry)
     except BaseException:
@@ -212,18 +267,57 @@ def run(words: argparse.Namespace) -> int:
     return status
 
 
+def _serve(words: argparse.Namespace) -> int:
+    with modules():
+        from npss_registry.serving import Serving, serve
+    return serve(Serving(words.store, words.host, words.port, words.token_file, words.private, words.allow_host))
+
+
 def main(given: Optional[Sequence[str]] = None) -> int:
-    """The command. Status 0: done; 1: no, or taken; 2: bad words; 3: refused; 4: a store, log or file is faulty; 5: the log is away."""
+    """The command. Status 0: done; 1: no, or taken; 2: bad words; 3: refused; 4: a store, log or file is faulty; 5: it is away, or in use."""
     words = parser().parse_args(given)
+    # What is made holds names and passwords, which are the user's own.
+    mask = os.umask(0o077)
+    if isinstance(sys.stdout, io.TextIOWrapper):
+        sys.stdout.reconfigure(errors="backslashreplace")
     try:
-        return run(words)
-    except Refused as error:
-        status, why = REFUSED, f"{type(error).__name__}: {error}"
-    except LogAway as error:
-        status, why = AWAY, str(error)
-    except (RegistryError, BadTables) as error:
-        status, why = FAULTY, str(error)
-    except OSError as error:
-        status, why = AWAY, f"{error.filename}: {error.strerror}" if error.filename else str(error)
-    print(f"npss-registry: {why}", file=sys.stderr)
+        with plainly(getattr(words, "store", words.command)), modules():
+            status = run(words)
+        if sys.stdout is not None:
+            sys.stdout.flush()
+        return status
+    except (Exception, KeyboardInterrupt) as error:
+        status, why = failure_of(error)
+    finally:
+        os.umask(mask)
+    with contextlib.suppress(OSError):
+        print(failed(why), file=sys.stderr)
     return status
+
+
+def failure_of(error: BaseException) -> tuple[int, str]:
+    """The status of a failure, and a sentence."""
+    if isinstance(error, Refused):
+        return REFUSED, f"{type(error).__name__}: {error}"
+    if isinstance(error, (LogAway, StoreAway, InUse, CannotServe)):
+        return AWAY, str(error)
+    if isinstance(error, (RegistryError, BadTables)):
+        return FAULTY, str(error)
+    if isinstance(error, BrokenPipeError):
+        _drop_output()
+        return AWAY, "the output was closed"
+    if isinstance(error, OSError):
+        _drop_output()
+        return AWAY, f"{error.filename}: {error.strerror}" if error.filename else str(error)
+    if isinstance(error, MemoryError):
+        return AWAY, "out of memory"
+    if isinstance(error, KeyboardInterrupt):
+        return INTERRUPTED, "interrupted"
+    place = traceback.extract_tb(error.__traceback__)[-1]
+    return FAULTY, f"a fault of npss-registry: {type(error).__name__}: {error} ({Path(place.filename).name}, line {place.lineno})"
+
+
+def _drop_output() -> None:
+    """What is left to be written can't be, which Python would tell once more at its end."""
+    with contextlib.suppress(OSError, ValueError):
+        os.dup2(os.open(os.devnull, os.O_WRONLY), sys.stdout.fileno())

@@ -9,6 +9,10 @@ from npss import Form, Tables, Unassigned
 from npss_registry.store import Version
 
 
+# So many code points of a name are told of.
+MOST_ROWS = 1000
+
+
 class Names:
     """The names of code points, as UnicodeData.txt has them."""
 
@@ -53,7 +57,7 @@ class Row:
 
 @dataclass(frozen=True)
 class Side:
-    """A name, code point by code point, and its key; none where a code point isn't assigned."""
+    """A name, its first code points one by one, and its key; none where a code point isn't assigned."""
 
     text: str
     rows: list[Row]
@@ -78,7 +82,7 @@ def hex_of(code: int) -> str:
 def side(tables: Tables, names: Names, form: Form, text: str) -> Side:
     """A name as the page shows it."""
     rows = []
-    for character in text:
+    for character in text[:MOST_ROWS]:
         told = tables.property(character)
         decomposition = tables.decomposition(character, form in ("nfkd", "nfkc"))
         rows.append(Row(ord(character), names.name(ord(character)), told.assigned, told.combining_class, told.mapping,

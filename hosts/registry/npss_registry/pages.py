@@ -1,65 +1,94 @@
 """The registry's pages for people: plain HTML without scripts."""
 
+import unicodedata
 from collections.abc import Sequence
 from html import escape
+from typing import Optional
 
-from npss_registry.explaining import Row, Side, Verdict, hex_of
-from npss_registry.registry import ShardStatus
+from npss_registry.explaining import MOST_ROWS, Row, Side, Verdict, hex_of
+from npss_registry.overview import Overview, ShardState
 from npss_registry.store import Registration
 
 STYLE = """
-body { font: 16px/1.5 system-ui, sans-serif; max-width: 60rem; margin: 2rem auto; padding: 0 1rem; color: #222; }
-table { border-collapse: collapse; margin: .5rem 0 1.5rem; } td, th { border: 1px solid #ccc; padding: .2rem .6rem; text-align: left; }
-th { background: #f3f3f3; } input[type=text] { font: inherit; padding: .2rem .4rem; width: 18rem; } button { font: inherit; }
-.yes { color: #060; } .no { color: #a00; } .code { font-family: monospace; } mark { background: #fd6; } label { margin-right: 1rem; }
+:root { color-scheme: light dark; }
+body { font: 16px/1.5 system-ui, sans-serif; max-width: 60rem; margin: 2rem auto; padding: 0 1rem; background: Canvas; color: CanvasText; }
+.wide { overflow-x: auto; } table { border-collapse: collapse; margin: .5rem 0 1.5rem; }
+td, th { border: 1px solid GrayText; padding: .2rem .6rem; text-align: left; }
+label { display: inline-block; margin: 0 1rem .5rem 0; } label input { display: block; }
+input[type=text] { font: inherit; padding: .2rem .4rem; width: 18rem; max-width: 90vw; box-sizing: border-box; } button { font: inherit; }
+.yes { color: light-dark(#060, #7d7); } .no { color: light-dark(#a00, #f88); } mark { background: #fd6; color: #000; }
+.code { font-family: monospace; unicode-bidi: isolate; direction: ltr; } bdi, .code { overflow-wrap: anywhere; }
 """
-MOST_SHOWN = 10
 NOTE = ("Names that only look alike are not judged here: letters of two scripts, capitals and small letters, a digit for a "
         "letter are different names.")
+# So many characters of a text are shown.
+MOST_SHOWN = 1000
+# What turns the direction of a text, beside what is no sign at all.
+_TURNS = ("LRE", "RLE", "LRO", "RLO", "PDF", "LRI", "RLI", "FSI", "PDI")
 
 
-def page(title: str, *parts: str) -> str:
+def page(title: str, *parts: str, home: bool = False) -> str:
     """A whole page."""
-    return (f'<!DOCTYPE html>\n<html lang="en"><head><meta charset="utf-8"><title>{escape(title)}</title><style>{STYLE}</style></head>\n'
-            f'<body><h1>{escape(title)}</h1>\n{"".join(parts)}\n<p><a href="/">Search and status</a></p></body></html>\n')
+    back = "" if home else '\n<p><a href="/">Search and status</a></p>'
+    return (f'<!DOCTYPE html>\n<html lang="en"><head><meta charset="utf-8"><meta name="viewport" content="width=device-width, initial-scale=1">'
+            f'<title>{escape(title)}</title><style>{STYLE}</style></head>\n<body><h1>{escape(title)}</h1>\n{"".join(parts)}{back}</body></html>\n')
 
 
 def table(heads: Sequence[str], rows: Sequence[Sequence[str]]) -> str:
     """A table; its cells are HTML already."""
     head = "".join(f"<th>{escape(word)}</th>" for word in heads)
     body = "".join("<tr>" + "".join(f"<td>{cell}</td>" for cell in row) + "</tr>\n" for row in rows)
-    return f"<table><tr>{head}</tr>\n{body}</table>\n"
+    return f'<div class="wide"><table><tr>{head}</tr>\n{body}</table></div>\n'
+
+
+def shown(text: str) -> str:
+    """A text of somebody else, which keeps its direction to itself; what can't be seen in it, or turns directions, is spelled out."""
+    told = "".join(escape(one) if _is_plain(one) else f'<span class="code">[{hex_of(ord(one))}]</span>' for one in text[:MOST_SHOWN])
+    return f"<bdi>{told}</bdi>" + (" .." if len(text) > MOST_SHOWN else "")
+
+
+def _is_plain(one: str) -> bool:
+    return unicodedata.category(one) not in ("Cc", "Zl", "Zp", "Cs") and unicodedata.bidirectional(one) not in _TURNS
 
 
 def _field(name: str, label: str, value: str = "") -> str:
-    return f'<label>{label} <input type="text" name="{name}" value="{escape(value)}"></label>'
+    return f'<label>{label} <input type="text" dir="auto" name="{name}" value="{escape(value)}"></label>'
 
 
-def home(node: str, assigned: int, form: str, rows: Sequence[ShardStatus]) -> str:
+def home(told: Overview) -> str:
     """The search, the question why, and how far this node has read."""
     status = table(("shard", "read to place", "last place", "behind", "registered", "parked"),
                    [(str(row.shard), str(row.place), "unknown" if row.last is None else str(row.last), _lag(row), str(row.registered),
-                     _parked(row)) for row in rows])
+                     str(row.parked)) for row in told.shards])
     return page(
         "Registry of names",
         f'<h2>Who has a name?</h2><form method="post" action="/search">{_field("name", "Name")}<button>Search</button></form>',
         f'<h2>Are two names the same?</h2><form method="post" action="/why">{_field("left", "One")}{_field("right", "Other")}'
         f"<button>Compare</button></form><p>{NOTE}</p>",
-        f"<h2>This node</h2><p>Node <span class=code>{escape(node)}</span>, form {escape(form.upper())}; its version of Unicode assigns "
-        f"{assigned} code points. A parked name has a code point that this version lacks: it is registered, and is taken after an "
-        f"upgrade.</p>{status}")
+        f"<h2>This node</h2><p>Node <span class=code>{escape(told.node)}</span>, form {escape(told.form.upper())}; its version of Unicode "
+        f"assigns {told.assigned} code points. A parked name has a code point that this version lacks: it is registered, and is taken after "
+        f"an upgrade.</p>{_log(told)}{status}{_parked(told)}", home=True)
 
 
-def _lag(row: ShardStatus) -> str:
-    if row.last is None:
-        return '<span class="no">the log is away</span>'
-    return '<span class="yes">no</span>' if row.last <= row.place else '<span class="no">yes</span>'
+def _log(told: Overview) -> str:
+    """Whether the log is there, and how old its news is."""
+    age = "" if told.age is None else f" It told its last places {told.age:.0f} s ago."
+    if told.log_away is not None:
+        return f'<p class="no">The log is away, so no name can be claimed: {shown(told.log_away)}.{age}</p>'
+    if not told.claims:
+        return f'<p class="no">No name can be claimed at the moment.{age}</p>'
+    return f'<p class="yes">Names can be looked up and claimed.{age}</p>'
 
 
-def _parked(row: ShardStatus) -> str:
-    """How many names are parked, and the first of them."""
-    names = ", ".join(escape(one.string) for one in row.parked[:MOST_SHOWN])
-    return f"{len(row.parked)}" + (f": {names}" if names else "")
+def _lag(row: ShardState) -> str:
+    if row.behind is None:
+        return '<span class="no">unknown</span>'
+    return f'<span class="no">{row.behind}</span>' if row.behind else '<span class="yes">no</span>'
+
+
+def _parked(told: Overview) -> str:
+    """The first of the parked names."""
+    return f"<h2>Parked</h2><p>{', '.join(shown(name) for _, name in told.parked)}</p>" if told.parked else ""
 
 
 def search(name: str, found: Sequence[Registration], refusal: str = "") -> str:
@@ -70,13 +99,17 @@ def search(name: str, found: Sequence[Registration], refusal: str = "") -> str:
         told = "<p>Nobody has it.</p>"
     else:
         told = table(("name", "code points", "owner", "place", "parked"),
-                     [(escape(one.string), _codes(one.string), escape(one.owner), str(one.place), "yes" if one.parked else "no") for one in found])
+                     [(shown(one.string), _codes(one.string), shown(one.owner), str(one.place), "yes" if one.parked else "no") for one in found])
     form = f'<form method="post" action="/search">{_field("name", "Name", name)}<button>Search</button></form>'
     return page("Who has this name?", form, told)
 
 
-def _codes(text: str) -> str:
-    return f'<span class="code">{" ".join(hex_of(ord(one)) for one in text)}</span>'
+def _codes(text: str, marked: Optional[int] = None) -> str:
+    """The code points of a text, up to a limit, one of them marked."""
+    codes = [hex_of(ord(one)) for one in text[:MOST_ROWS]]
+    if marked is not None and marked < len(codes):
+        codes[marked] = f"<mark>{codes[marked]}</mark>"
+    return f'<span class="code">{" ".join(codes)}{" .." if len(text) > MOST_ROWS else ""}</span>'
 
 
 def why(form: str, verdict: Verdict) -> str:
@@ -96,17 +129,15 @@ def _verdict(form: str, verdict: Verdict) -> str:
             f"{(verdict.place or 0) + 1}.")
 
 
-def _side(title: str, one: Side, place: "int | None") -> str:
+def _side(title: str, one: Side, place: Optional[int]) -> str:
     rows = [_row(row) for row in one.rows]
+    more = f"<p>These are its first {MOST_ROWS} code points of {len(one.text)}.</p>" if len(one.text) > len(rows) else ""
     if one.key is None:
         key = f'<span class="no">none: {escape(str(one.refusal))}</span>'
     else:
-        codes = [hex_of(ord(character)) for character in one.key]
-        if place is not None and place < len(codes):
-            codes[place] = f"<mark>{codes[place]}</mark>"
-        key = f'{escape(one.key)} <span class="code">{" ".join(codes)}</span>'
-    return (f"<h2>{title}: {escape(one.text)}</h2>" + table(("code point", "name", "class", "mapping", "full decomposition"), rows)
-            + f"<p>Key: {key}</p>")
+        key = f"{shown(one.key)} {_codes(one.key, place)}"
+    heads = ("code point", "name", "class", "mapping", "full decomposition")
+    return f"<h2>{title}: {shown(one.text)}</h2>{table(heads, rows)}{more}<p>Key: {key}</p>"
 
 
 def _row(row: Row) -> tuple[str, ...]:

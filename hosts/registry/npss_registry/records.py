@@ -1,9 +1,14 @@
-"""What stands in a log: the setup of a shard, claims and forgets, and how they are spelled."""
+"""What stands in a log: the setup of a shard, claims, forgets and an end, and how they are spelled.
+
+Records have two layouts. In the second one 16 random bytes stand in each, so that no record comes twice; the setup tells
+the log's name. A log that begins with a setup of the first layout may have records of both.
+"""
 
 import base64
 import hashlib
 import json
-from dataclasses import dataclass
+import secrets
+from dataclasses import dataclass, field, replace
 from typing import NamedTuple, Union
 
 from npss import Form
@@ -12,6 +17,12 @@ from npss_registry.errors import LogBroken
 
 # A message is the form's byte, the length of the string in four bytes, the string, and its key likewise.
 _LENGTH = 4
+# So many random bytes stand in a record, and so many characters tell them.
+_NONCE, _SPELLED_NONCE = 16, 24
+# A string may have so many bytes, whatever a registry allows.
+MOST_BYTES = 65_536
+# The running sum of a shard of which nothing was read.
+NOTHING_READ = bytes(32)
 _FORM_BYTES = {"nfd": b"D", "nfc": b"C", "nfkd": b"d", "nfkc": b"c"}
 FORMS: tuple[Form, ...] = ("nfc", "nfd", "nfkc", "nfkd")
 _ENCODER, _DECODER = json.JSONEncoder(ensure_ascii=False, separators=(",", ":")), json.JSONDecoder()
@@ -19,12 +30,23 @@ _ENCODER, _DECODER = json.JSONEncoder(ensure_ascii=False, separators=(",", ":"))
 
 @dataclass(frozen=True)
 class Setup:
-    """What all stores of a log share. It is each shard's first record."""
+    """What all stores of a log share. It is each shard's first record.
+
+    A name has at most `most_bytes` bytes of UTF-8; of a log that tells none, as many as a node takes.
+
+    `name` is random, and no other log has it; a log whose setup is of the first layout has none. Where the log goes on
+    from an earlier one, `before` is the name of that, and `kept` how many claims were carried over from it: they stand
+    right behind the setup.
+    """
 
     form: Form
     room: int
     shards: int
     equivalents: bool
+    name: str = ""
+    before: str = field(default="", compare=False)
+    kept: int = field(default=0, compare=False)
+    most_bytes: int = MOST_BYTES
 
 
 class Claim(NamedTuple):
@@ -43,13 +65,24 @@ class Forget(NamedTuple):
     place: int
 
 
-Record = Union[Setup, Claim, Forget]
+class End(NamedTuple):
+    """The shard ends here: the registry goes on in another log, which is told to people."""
+
+    log: str
+
+
+Record = Union[Setup, Claim, Forget, End]
+
+
+def form_byte(form: Form) -> bytes:
+    """The byte with which the messages of a form begin."""
+    return _FORM_BYTES[form]
 
 
 def message(form: Form, string: str, key: str) -> bytes:
     """The message of a string and its key, as a node spells it (docs/FORMATS.md, "Message")."""
     parts = (string.encode(), key.encode())
-    return _FORM_BYTES[form] + b"".join(len(part).to_bytes(_LENGTH, "big") + part for part in parts)
+    return form_byte(form) + b"".join(len(part).to_bytes(_LENGTH, "big") + part for part in parts)
 
 
 def claim_of(message: bytes, owner: str) -> Claim:
@@ -71,32 +104,68 @@ def form_of(name: object) -> Form:
 
 
 def spelled(record: Record) -> bytes:
-    """The bytes of a record, JSON that a person can read."""
+    """The bytes of a record, JSON that a person can read. No two calls answer the same bytes."""
     if isinstance(record, Claim):
         told: dict[str, object] = {"claim": base64.b64encode(record.message).decode(), "owner": record.owner}
     elif isinstance(record, Forget):
         told = {"forget": record.string, "place": record.place}
+    elif isinstance(record, End):
+        told = {"end": record.log}
     else:
-        told = {"setup": 1, "form": record.form, "room": record.room, "shards": record.shards, "equivalents": record.equivalents}
+        told = {"setup": 2, "form": record.form, "room": record.room, "shards": record.shards, "equivalents": record.equivalents,
+                "name": record.name, "before": record.before, "kept": record.kept, "most_bytes": record.most_bytes}
+    told["nonce"] = base64.b64encode(secrets.token_bytes(_NONCE)).decode()
     return _ENCODER.encode(told).encode()
 
 
-def read(place: int, body: bytes) -> Record:
-    """The record of bytes at a place of a log. LogBroken where they are none."""
+def read(place: int, body: bytes, layout: int = 1) -> Record:
+    """The record of bytes at a place of a log that begins with a setup of a layout. LogBroken where they are none."""
     try:
         text = body.decode()
         told, end = _DECODER.raw_decode(text)
         if end != len(text):
             raise ValueError("more stands behind it")
-        if "claim" in told:
-            return claim_of(base64.b64decode(told["claim"], validate=True), _text(told["owner"]))
-        if "forget" in told:
-            return Forget(_text(told["forget"]), _number(told["place"]))
-        if told["setup"] != 1:
-            raise ValueError("the setup is of another layout")
-        return Setup(form_of(told["form"]), _number(told["room"]), _number(told["shards"]), told["equivalents"] is True)
+        if layout != 1:
+            _check_nonce(told)
+        return _record(told)
     except (KeyError, RecursionError, TypeError, ValueError) as error:
         raise LogBroken(place, f"what stands there is no record: {error!r}") from error
+
+
+def _record(told: dict[str, object]) -> Record:
+    """The record of what was spelled. KeyError, TypeError or ValueError where it is none."""
+    if "claim" in told:
+        return claim_of(base64.b64decode(_text(told["claim"]), validate=True), _text(told["owner"]))
+    if "forget" in told:
+        return Forget(_text(told["forget"]), _number(told["place"]))
+    if "end" in told:
+        _check_nonce(told)
+        return End(_text(told["end"]))
+    return _setup(told)
+
+
+def _setup(told: dict[str, object]) -> Setup:
+    if not isinstance(told["equivalents"], bool):
+        raise TypeError(f"{told['equivalents']!r} is neither true nor false")
+    first = Setup(form_of(told["form"]), _number(told["room"]), _number(told["shards"]), told["equivalents"])
+    if told["setup"] == 1:
+        return first
+    if told["setup"] != 2:
+        raise ValueError("the setup is of another layout")
+    _check_nonce(told)
+    if not _text(told["name"]):
+        raise ValueError("the log's name is empty")
+    most = _number(told.get("most_bytes", MOST_BYTES))
+    if not 0 < most <= MOST_BYTES:
+        raise ValueError(f"a name has 1 to {MOST_BYTES} bytes at most, not {most}")
+    return replace(first, name=_text(told["name"]), before=_text(told["before"]), kept=_number(told["kept"]), most_bytes=most)
+
+
+def _check_nonce(told: dict[str, object]) -> None:
+    """Random bytes stand in a record. Nothing is read from them."""
+    nonce = told["nonce"]
+    if not isinstance(nonce, str) or len(nonce) != _SPELLED_NONCE:
+        raise ValueError("its random bytes are not whole")
 
 
 def _text(told: object) -> str:
@@ -109,7 +178,7 @@ def _text(told: object) -> str:
 
 def _number(told: object) -> int:
     """A number of a record, which a store can hold."""
-    if not isinstance(told, int) or not 0 <= told < 1 << 63:
+    if not isinstance(told, int) or isinstance(told, bool) or not 0 <= told < 1 << 63:
         raise ValueError(f"{told!r} is no number")
     return told
 
@@ -117,6 +186,11 @@ def _number(told: object) -> int:
 def sum_of(body: bytes) -> bytes:
     """The sum by which a node knows its last record again."""
     return hashlib.sha256(body).digest()
+
+
+def sum_behind(before: bytes, place: int, last: bytes) -> bytes:
+    """The running sum of a shard behind a record of a sum, from that before it: it tells all records up to here, with their places."""
+    return hashlib.sha256(before + place.to_bytes(8, "big") + last).digest()
 
 
 def shard_of(key: str, shards: int) -> int:

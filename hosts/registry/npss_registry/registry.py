@@ -1,21 +1,27 @@
 """A registry's node: a store, a log, and what a client may ask of them."""
 
+import os
+import secrets
 import threading
 from collections.abc import Iterable, Iterator, Sequence
 from contextlib import contextmanager
-from dataclasses import dataclass
+from dataclasses import dataclass, replace
 from typing import Optional, Union
 
 from npss import Node, Refused, Tables
 
 from npss_registry import records
-from npss_registry.errors import Differs, LogAway, LogBroken, NotOneChain, StoreError
-from npss_registry.logs import Log, open_log
+from npss_registry.errors import Differs, LogAway, LogBroken, NameTooLong, NoLog, NotOneChain, StoreError
+from npss_registry.logs import PIECE, Log, located, open_log, shown, size_of
 from npss_registry.records import Claim, Forget, Setup
-from npss_registry.shards import PIECE, Outcome, Shard
+from npss_registry.shards import Outcome, Shard
 from npss_registry.store import Registration, Store, Version
 
 MOST_SHARDS = 1024
+# Pieces of shards are applied together up to so many bytes.
+BYTES = 1 << 24
+# A name of a new registry has at most so many bytes, where nobody says otherwise.
+MOST_BYTES = 1024
 
 
 @dataclass(frozen=True)
@@ -33,27 +39,41 @@ class ShardStatus:
 
 
 def init(path: str, version: Version, setup: Optional[Setup], log_name: str) -> Setup:
-    """Makes a store over a log, and sets the log up where nobody has. Without a setup the log's own is taken."""
+    """Makes a store over a log, and sets the log up where nobody has. Without a setup the log's own is taken.
+
+    Where it tells 0 for the most bytes of a name, a new log allows 1,024, and of another one they are taken. A relative path of
+    the log counts from the store's folder. StoreError of a log that `relog` has begun and not ended.
+    """
     tables = version.tables()
-    log = open_log(log_name)
+    if os.path.lexists(path):
+        raise StoreError(f"{path}: there is a file of this name already")
+    log = open_log(located(log_name, os.path.dirname(os.path.realpath(path))), "make")
     try:
-        found = _setup_of(log)
+        found = setup_of(log, 0)
         if found is None:
-            _set_up(log, setup or Setup("nfc", 65536, 1, False))
-            found = _setup_of(log)
+            wanted = setup or Setup("nfc", 65536, 1, False, most_bytes=0)
+            _set_up(log, replace(wanted, most_bytes=wanted.most_bytes or MOST_BYTES))
+            found = setup_of(log, 0)
             if found is None:
                 raise LogAway("the log: its setup could not be written")
-        if setup is not None and setup != found:
-            raise Differs(f"the log was set up otherwise: {found}")
+        if setup is not None and replace(setup, name=found.name, most_bytes=setup.most_bytes or found.most_bytes) != found:
+            raise Differs(f"the log was set up otherwise: {told(found)}")
+        check_whole(log, found, log_name)
     finally:
         log.close()
     Store.create(path, found, log_name, version, Node(tables, found.form, found.room).image())
     return found
 
 
-def _setup_of(log: Log) -> Optional[Setup]:
-    """The setup in the first record of a log; None of an empty one."""
-    first = log.read(0, 0, 1)
+def told(setup: Setup) -> str:
+    """A setup for people."""
+    return (f"form {setup.form}, room {setup.room}, shards {setup.shards}, equivalents {'allowed' if setup.equivalents else 'refused'}"
+            + f", names of at most {setup.most_bytes} bytes" + (f", name {setup.name}" if setup.name else ""))
+
+
+def setup_of(log: Log, shard: int) -> Optional[Setup]:
+    """The setup in the first record of a shard; None of an empty one."""
+    first = log.read(shard, 0, 1)
     if not first:
         return None
     setup = records.read(*first[0])
@@ -67,18 +87,49 @@ def _set_up(log: Log, setup: Setup) -> None:
         raise StoreError(f"a registry has 1 to {MOST_SHARDS} shards, not {setup.shards}")
     if not 0 <= setup.room <= 65536:
         raise StoreError(f"a shard has room for 0 to 65536 strings, not {setup.room}")
-    body = records.spelled(setup)
-    log.begin([(shard, body) for shard in range(setup.shards)])
+    named = replace(setup, name=secrets.token_hex(16))
+    log.begin([(shard, records.spelled(named)) for shard in range(setup.shards)])
+
+
+def check_whole(log: Log, setup: Setup, name: str) -> None:
+    """StoreError where `relog` has begun a log and has not carried all over."""
+    if not is_whole(log, setup):
+        raise StoreError(f"{shown(name)}: `npss-registry relog` has begun this log and not ended; call it again first")
+
+
+def is_whole(log: Log, setup: Setup) -> bool:
+    """Whether what a log says to be carried over stands in it."""
+    return all(_carried(log, shard) for shard in range(setup.shards))
+
+
+def _carried(log: Log, shard: int) -> bool:
+    """Whether behind a shard's setup so many records stand as it tells."""
+    setup = setup_of(log, shard)
+    if setup is None:
+        return False
+    at, left = log.read(shard, 0, 1)[0][0], setup.kept
+    while left > 0:
+        piece = log.read(shard, at, min(left, PIECE))
+        if not piece:
+            return False
+        at, left = piece[-1][0], left - len(piece)
+    return True
 
 
 class Registry:
-    """The node of a store. It serves one thread at a time, and keeps others waiting."""
+    """The node of a store. It serves one thread at a time, and keeps others waiting.
 
-    def __init__(self, path: str):
+    Raises NoLog where its log isn't there, Differs where it is another registry's, and LogBroken where it isn't the one that was read.
+    """
+
+    def __init__(self, path: str, store: Optional[Store] = None):
+        """Over the store of a path; one that is open already is left open where this fails."""
         self._lock = threading.RLock()
         self._ended = False
-        self.store = Store(path)
+        self.store = store or Store(path)
         try:
+            if self.store.moving is not None:
+                raise StoreError(f"{path}: `npss-registry relog` into {shown(self.store.moving)} was begun and has not ended; call it again")
             self.setup = self.store.setup
             self._use(self.store.versions()[-1].tables())
             self.log = open_log(self.store.log)
@@ -88,7 +139,8 @@ class Registry:
                 self.log.close()
                 raise
         except BaseException:
-            self.store.close()
+            if store is None:
+                self.store.close()
             raise
 
     def _use(self, tables: Tables) -> None:
@@ -97,9 +149,7 @@ class Registry:
         self._speller = Node(tables, self.setup.form, 1)
 
     def _begin(self) -> None:
-        found = _setup_of(self.log)
-        if found != self.setup:
-            raise Differs(f"the store was set up as {self.setup}, its log as {found}")
+        self._check_setup(setup_of(self.log, 0))
         version = len(self.store.versions()) - 1
         self.shards = [Shard(number, self.store, self.log, self.tables, version) for number in range(self.setup.shards)]
         with self.store.transaction():
@@ -112,6 +162,17 @@ class Registry:
                     shard.note_restart()
             self.store.count_opening()
         self.store.note_opening()
+
+    def _check_setup(self, found: Optional[Setup]) -> None:
+        """The log is the one that this store's registry has."""
+        if found is None and not any(self.store.places()):
+            raise NoLog(shown(self.store.log))
+        if found is None:
+            raise LogBroken(0, "nothing stands in it any more; see `npss-registry relog`")
+        if found.name != self.setup.name and replace(found, name=self.setup.name) == self.setup:
+            raise Differs(f"{shown(self.store.log)} is another registry's log: its name is {found.name or 'none'}, the store's {self.setup.name or 'none'}")
+        if found != self.setup:
+            raise Differs(f"the store was set up as {told(self.setup)}; its log as {told(found)}")
 
     def close(self) -> None:
         """Saves what each shard keeps, and lets store and log go."""
@@ -145,19 +206,41 @@ class Registry:
     # ---- reading the log
 
     def catch_up(self, shards: Optional[Iterable[int]] = None) -> dict[tuple[int, int], Outcome]:
-        """Reads shards of the log to their ends, and tells what became of each record, by its shard and place."""
+        """Reads shards of the log to their ends, and tells what became of each record, by its shard and place.
+
+        LogEnded where the log has an end, behind which nothing is read.
+        """
+        outcomes = self._read_on(shards)
+        self._check_ends()
+        return outcomes
+
+    def _read_on(self, shards: Optional[Iterable[int]] = None) -> dict[tuple[int, int], Outcome]:
         outcomes: dict[tuple[int, int], Outcome] = {}
         with self._lock:
             self._check_going()
-            left = set(range(self.setup.shards) if shards is None else shards)
+            left = list(range(self.setup.shards) if shards is None else shards)
             while left:
-                pieces = {number: self.shards[number].read() for number in left}
+                pieces = self._pieces(left)
                 with self._writing():
                     for number, piece in pieces.items():
                         for place, outcome in self.shards[number].apply(piece).items():
                             outcomes[number, place] = outcome
-                left = {number for number, piece in pieces.items() if len(piece) == PIECE}
+                left += [number for number in pieces if self.shards[number].more and not self.shards[number].end]
         return outcomes
+
+    def _pieces(self, left: list[int]) -> dict[int, list[tuple[int, bytes]]]:
+        """The next pieces of shards that are left, which they aren't any more: as many as are worked on at a time."""
+        pieces: dict[int, list[tuple[int, bytes]]] = {}
+        size = 0
+        while left and size < BYTES:
+            number = left.pop()
+            pieces[number] = self.shards[number].read()
+            size += size_of(pieces[number])
+        return pieces
+
+    def _check_ends(self) -> None:
+        for shard in self.shards:
+            shard.check_end()
 
     # ---- what clients ask
 
@@ -193,6 +276,9 @@ class Registry:
 
     def _claim_of(self, string: Union[str, bytes], owner: str) -> Claim:
         """The claim of a string, by a node that keeps nothing else."""
+        most = self.setup.most_bytes
+        if most < records.MOST_BYTES and len(string if isinstance(string, bytes) else string.encode()) > most:
+            raise NameTooLong(most)
         self._speller.accept(string)
         message = self._speller.message(string)
         assert message is not None
@@ -207,9 +293,10 @@ class Registry:
         if not publish:
             return {}
         places = self.log.append([(number, body) for _, number, body in publish])
-        told = self.catch_up({number for _, number, _ in publish})
+        told = self._read_on({number for _, number, _ in publish})
         lost = [place for (_, number, _), place in zip(publish, places) if (number, place) not in told]
         if lost:
+            self._check_ends()
             raise LogBroken(lost[0], "the record that this node wrote is missing; see `npss-registry relog`")
         return {index: told[number, place] for (index, number, _), place in zip(publish, places)}
 
@@ -252,14 +339,15 @@ class Registry:
 
     def status(self) -> list[ShardStatus]:
         with self._lock:
-            return [ShardStatus(shard.number, shard.place, self._last(shard.number), self.store.count(shard.number),
-                                self.store.parked(shard.number)) for shard in self.shards]
+            return [ShardStatus(shard.number, shard.place, last, self.store.count(shard.number), self.store.parked(shard.number))
+                    for shard, last in zip(self.shards, self._lasts())]
 
-    def _last(self, number: int) -> Optional[int]:
+    def _lasts(self) -> Sequence[Optional[int]]:
+        """The places of the last records of all shards, by one question; None where the log is away."""
         try:
-            return self.log.last(number)
+            return self.log.lasts(self.setup.shards)
         except LogAway:
-            return None
+            return [None] * self.setup.shards
 
     # ---- a new version
 

@@ -1,255 +1,204 @@
-"""A registry as JSON over HTTP, with the names in the bodies."""
+"""A registry as JSON over HTTP, with the names in the bodies, and as pages for people."""
 
 import asyncio
-import contextlib
-import hmac
-import json
-import sys
-from collections.abc import AsyncIterator
+from collections.abc import Callable
+from concurrent.futures import Future
+from contextlib import AbstractAsyncContextManager
 from http import HTTPStatus
-from pathlib import Path
 from typing import Any, Optional
-from urllib.parse import parse_qs
 
-import uvicorn
 from npss import Refused, Unassigned
 from starlette.applications import Starlette
-from starlette.requests import Request
+from starlette.exceptions import HTTPException
+from starlette.requests import ClientDisconnect, Request
 from starlette.responses import HTMLResponse, JSONResponse, Response
 from starlette.routing import Route
 
 from npss_registry import pages
-from npss_registry.errors import LogAway, RegistryError, StoreError
-from npss_registry.explaining import Names, compared
-from npss_registry.records import shard_of
-from npss_registry.registry import Registry
+from npss_registry.bodies import MOST_BODY, MOST_BODY_WITH_TOKEN, Fault, fields_of, object_of, owner_of, text_of
+from npss_registry.errors import LogReadOnly, NotTried, RegistryError
+from npss_registry.explaining import Names, Verdict, compared
+from npss_registry.metrics import Metrics
+from npss_registry.overview import Overlook, ShardState
+from npss_registry.reader import Reader
 from npss_registry.shards import Outcome
-from npss_registry.store import Registration, Store
+from npss_registry.store import Registration
+from npss_registry.tokens import Token, matching
 from npss_registry.worker import Worker
 
-# A name has 65,536 bytes at most, of which JSON may spell each character in 6.
-MOST_BODY = 524_288
-MOST_OWNER = 1_000
-# So many parked names of a shard are told.
-MOST_PARKED = 100
-
-
-class Fault(Exception):
-    """A request that isn't answered, with its status and a sentence."""
-
-    def __init__(self, status: int, why: str):
-        super().__init__(why)
-        self.status = status
+# What changes names.
+CHANGES = ("/claim", "/forget")
+# So many pages `why` are made at once.
+EXPLAINING = 2
+_STATUSES = {"registered": 200, "taken": 409, "full": 507, "forgotten": 200, "not registered": 404}
 
 
 def _told(found: Registration) -> dict[str, Any]:
     return {"name": found.string, "owner": found.owner, "place": found.place, "key": found.key, "parked": found.parked}
 
 
-async def _bounded(request: Request) -> bytes:
-    """The body of a request, up to its limit."""
-    body = bytearray()
-    async for piece in request.stream():
-        body += piece
-        if len(body) > MOST_BODY:
-            raise Fault(413, f"a body has at most {MOST_BODY} bytes")
-    return bytes(body)
-
-
-async def _body(request: Request) -> dict[str, Any]:
-    """The JSON object of a request."""
-    try:
-        told = json.loads(await _bounded(request))
-    except ValueError as error:
-        raise Fault(400, f"the body is no JSON: {error}") from error
-    if not isinstance(told, dict):
-        raise Fault(400, "the body is no JSON object")
-    return told
-
-
-def _text(told: dict[str, Any], name: str) -> str:
-    """A text that has to be there."""
-    found = told.get(name)
-    if not isinstance(found, str):
-        raise Fault(400, f"the body wants a text {name!r}")
-    try:
-        found.encode()
-    except UnicodeEncodeError as error:
-        raise Fault(422, f"{name!r} has a lone surrogate at character {error.start}") from error
-    return found
-
-
-def _owner(told: dict[str, Any]) -> str:
-    owner = _text(told, "owner")
-    if not 0 < len(owner.encode()) <= MOST_OWNER:
-        raise Fault(422, f"an owner has 1 to {MOST_OWNER} bytes")
-    return owner
-
-
-def _refused(error: Refused) -> JSONResponse:
-    """What no node of this version registers."""
-    told: dict[str, Any] = {"error": type(error).__name__, "why": str(error)}
-    if isinstance(error, Unassigned):
-        told.update(code=f"{error.code:04X}", place=error.place, index=error.index)
-    return JSONResponse(told, 422)
-
-
 def _answered(outcome: Outcome) -> JSONResponse:
     told = {"outcome": outcome.what, "holder": _told(outcome.holder) if outcome.holder else None}
-    statuses = {"registered": 201 if outcome.new else 200, "taken": 409, "full": 507, "forgotten": 200, "not registered": 404}
-    return JSONResponse(told, statuses[outcome.what])
+    return JSONResponse(told, 201 if outcome.new else _STATUSES[outcome.what])
 
 
 class Service:
-    """The routes over one worker."""
+    """The routes over one worker and one reader."""
 
-    def __init__(self, worker: Worker, token: Optional[str]):
-        self._worker = worker
-        self._token = token
-        # Searches read what was committed last, and don't wait for claims.
-        self._reader = Store(worker.registry.store.path, read_only=True)
-        self._known: Optional[tuple[int, Names]] = None
+    def __init__(self, worker: Worker, reader: Reader, overlook: Overlook, metrics: Metrics):
+        self._worker, self._reader, self._overlook, self._metrics = worker, reader, overlook, metrics
+        self.tokens: Optional[list[Token]] = None
+        # Whether also who only reads shows a token.
+        self.private = False
+        self._names: Optional[Names] = None
+        self._explaining = asyncio.Semaphore(EXPLAINING)
 
-    def check_token(self, request: Request) -> None:
-        """What changes names wants the token."""
-        if self._token is None:
+    # ---- who asks
+
+    def _token_of(self, request: Request) -> Optional[Token]:
+        return matching(self.tokens or [], request.headers.get("authorization", ""))
+
+    def _check_reads(self, request: Request) -> int:
+        """Who may read; how large the body may be."""
+        token = self._token_of(request)
+        if self.private and token is None:
+            raise _no_token()
+        return MOST_BODY if token is None else MOST_BODY_WITH_TOKEN
+
+    def _check_changes(self, request: Request) -> Token:
+        """Who may change names, before the body is read."""
+        if self.tokens is None:
             raise Fault(403, "this server takes no changes; start it with --token-file")
-        given = request.headers.get("authorization", "")
-        if not hmac.compare_digest(given.encode(), f"Bearer {self._token}".encode()):
-            raise Fault(401, "the token is wrong or missing: Authorization: Bearer TOKEN")
+        token = self._token_of(request)
+        if token is None:
+            raise _no_token()
+        if not token.changes:
+            raise Fault(403, "this token reads alone")
+        return token
+
+    # ---- JSON
 
     async def claim(self, request: Request) -> Response:
-        self.check_token(request)
-        told = await _body(request)
-        name, owner = _text(told, "name"), _owner(told)
-        return _answered(await asyncio.wrap_future(self._worker.claim(name, owner)))
+        token = self._check_changes(request)
+        told = await object_of(request, MOST_BODY_WITH_TOKEN)
+        return await self._changed("claim", token, self._worker.claim(text_of(told, "name"), owner_of(told)))
 
     async def forget(self, request: Request) -> Response:
-        self.check_token(request)
-        told = await _body(request)
-        name = _text(told, "name")
-        owner = _owner(told) if "owner" in told else None
-        return _answered(await self._work(lambda registry: registry.forget(name, owner)))
+        token = self._check_changes(request)
+        told = await object_of(request, MOST_BODY_WITH_TOKEN)
+        name, owner = text_of(told, "name"), owner_of(told) if "owner" in told else None
+        return await self._changed("forget", token, self._worker.work(lambda registry: registry.forget(name, owner)))
+
+    async def _changed(self, request: str, token: Token, asked: "Future[Outcome]") -> Response:
+        outcome = await asyncio.wrap_future(asked)
+        self._metrics.outcome(request, outcome.what, token.name)
+        return _answered(outcome)
 
     async def find(self, request: Request) -> Response:
-        name = _text(await _body(request), "name")
-        found = self._found(name)
+        told = await object_of(request, self._check_reads(request))
+        found = self._reader.find(text_of(told, "name"))
         return JSONResponse([_told(one) for one in found], 200 if found else 404)
 
-    def _found(self, name: str) -> list[Registration]:
-        """Who has a name, or an equivalent one."""
-        setup = self._reader.setup
-        key = self._worker.registry.tables.key(name, setup.form)
-        return self._reader.with_key(shard_of(key, setup.shards), key)
-
-    def close(self) -> None:
-        """Lets the reader go."""
-        self._reader.close()
-
     async def same(self, request: Request) -> Response:
-        told = await _body(request)
-        left, right = _text(told, "left"), _text(told, "right")
-        same = await self._work(lambda registry: registry.same(left, right))
+        told = await object_of(request, self._check_reads(request))
+        same = self._reader.same(text_of(told, "left"), text_of(told, "right"))
         return JSONResponse({"same": same}, 404 if same is None else 200)
 
     async def status(self, request: Request) -> Response:
-        rows = await self._work(lambda registry: registry.status())
-        registry = self._worker.registry
-        shards = [{"shard": row.shard, "place": row.place, "last": row.last,
-                   "behind": None if row.last is None else row.last - row.place, "registered": row.registered,
-                   "parked": len(row.parked), "names": [one.string for one in row.parked[:MOST_PARKED]]} for row in rows]
-        return JSONResponse({"node": registry.store.node, "assigned": registry.tables.count, "form": registry.setup.form,
-                             "room": registry.setup.room, "shards": shards})
+        self._check_reads(request)
+        told = self._overlook.overview()
+        names: dict[int, list[str]] = {}
+        for shard, name in told.parked:
+            names.setdefault(shard, []).append(name)
+        return JSONResponse({"node": told.node, "assigned": told.assigned, "form": told.form, "room": told.room, "most_bytes": told.most_bytes, "versions": told.versions,
+                             "claims": told.claims, "log": {"away": told.log_away, "age": told.age}, "store": {"away": told.store_away},
+                             "shards": [_state(one, names.get(one.shard, [])) for one in told.shards]})
+
+    async def health(self, request: Request) -> Response:
+        """Whether names can be looked up, which the status says, and whether they can be claimed."""
+        self._reader.find("")
+        told = self._overlook.overview()
+        stopped = self._worker.failure is not None
+        return JSONResponse({"finds": not stopped, "claims": told.claims, "log": "reached" if told.log_away is None else "away",
+                             "store": "written" if told.store_away is None else "away"}, 503 if stopped else 200)
+
+    async def metrics(self, request: Request) -> Response:
+        self._check_reads(request)
+        return Response(self._metrics.text(), media_type="text/plain; version=0.0.4; charset=utf-8")
 
     # ---- pages for people
 
     async def home(self, request: Request) -> Response:
-        rows = await self._work(lambda registry: registry.status())
-        registry = self._worker.registry
-        return _html(pages.home(registry.store.node, registry.tables.count, registry.setup.form, rows))
+        self._check_reads(request)
+        return HTMLResponse(pages.home(self._overlook.overview()))
 
     async def search(self, request: Request) -> Response:
-        name = (await _fields(request, "name"))[0]
+        self._check_reads(request)
+        name = (await fields_of(request, "name"))[0]
         try:
-            found = self._found(name)
+            return HTMLResponse(pages.search(name, self._reader.find(name)))
         except Refused as error:
-            return _html(pages.search(name, [], str(error)))
-        return _html(pages.search(name, found))
+            return HTMLResponse(pages.search(name, [], str(error)))
 
     async def why(self, request: Request) -> Response:
-        left, right = await _fields(request, "left", "right")
-        form = self._worker.registry.setup.form
-        return _html(pages.why(form, await self._work(lambda registry: compared(registry.tables, self._names(registry), form, left, right))))
+        self._check_reads(request)
+        left, right = await fields_of(request, "left", "right")
+        async with self._explaining:
+            return HTMLResponse(await asyncio.to_thread(self._page_why, left, right))
 
-    def _names(self, registry: Registry) -> Names:
-        """The names of the code points of the version in use, which are read once."""
-        if self._known is None or self._known[0] != registry.tables.count:
-            self._known = registry.tables.count, Names(registry.store.versions()[-1])
-        return self._known[1]
+    def _page_why(self, left: str, right: str) -> str:
+        return pages.why(self._reader.setup.form, self._compared(left, right))
 
-    async def _work(self, work: Any) -> Any:
-        return await asyncio.wrap_future(self._worker.work(work))
+    def _compared(self, left: str, right: str) -> Verdict:
+        if self._names is None:
+            self._names = Names(self._reader.newest)
+        return compared(self._reader.tables, self._names, self._reader.setup.form, left, right)
+
+    # ---- what isn't answered
+
+    async def failed(self, request: Request, error: Exception) -> Response:
+        """What became of a request that isn't answered."""
+        if isinstance(error, ClientDisconnect):
+            raise error
+        told: dict[str, Any] = {"error": type(error).__name__, "why": str(error)}
+        status, headers = 503, {}
+        if isinstance(error, Refused):
+            status = 422
+            if isinstance(error, Unassigned):
+                told.update(code=f"{error.code:04X}", place=error.place, index=error.index)
+        elif isinstance(error, Fault):
+            status, headers, told["error"] = error.status, error.headers, error.phrase
+        elif isinstance(error, HTTPException):
+            status, headers = error.status_code, dict(error.headers or {})
+            told = {"error": HTTPStatus(status).phrase, "why": f"{request.method} {request.url.path} isn't one of this server's requests"}
+        elif isinstance(error, (NotTried, LogReadOnly)):
+            told["why"] += "; nothing was written, ask again later"
+        elif isinstance(error, RegistryError):
+            told["why"] += "; the outcome is unknown, ask again" if request.url.path in CHANGES else ""
+        else:
+            status, told = 500, {"error": "Internal Server Error", "why": "the server has a fault, which it tells who runs it"}
+        self._metrics.refused(told["error"])
+        return JSONResponse(told, status, headers)
 
 
-async def _fields(request: Request, *names: str) -> list[str]:
-    """The fields of a form that a page sent."""
-    try:
-        told = parse_qs((await _bounded(request)).decode(), keep_blank_values=True, errors="strict")
-    except ValueError as error:
-        raise Fault(400, "the form is not UTF-8") from error
-    return [told.get(name, [""])[0] for name in names]
+def _no_token() -> Fault:
+    return Fault(401, "the token is wrong or missing: Authorization: Bearer TOKEN", {"WWW-Authenticate": "Bearer"})
 
 
-def _html(text: str) -> HTMLResponse:
-    return HTMLResponse(text, headers={"Content-Security-Policy": "default-src 'none'; style-src 'unsafe-inline'; form-action 'self'"})
+def _state(one: ShardState, names: list[str]) -> dict[str, Any]:
+    return {"shard": one.shard, "place": one.place, "last": one.last, "behind": one.behind, "registered": one.registered,
+            "parked": one.parked, "names": names}
 
 
-def _failed(request: Request, error: Exception) -> Response:
-    if isinstance(error, Refused):
-        return _refused(error)
-    if isinstance(error, Fault):
-        return JSONResponse({"error": HTTPStatus(error.status).phrase, "why": str(error)}, error.status)
-    why = f"{error}; the outcome is unknown, ask again" if isinstance(error, LogAway) else str(error)
-    return JSONResponse({"error": type(error).__name__, "why": why}, 503)
-
-
-def application(worker: Worker, token: Optional[str]) -> Starlette:
-    """The application over a worker, which is closed with it."""
-    service = Service(worker, token)
-
-    @contextlib.asynccontextmanager
-    async def lifespan(_app: Starlette) -> AsyncIterator[None]:
-        yield
-        service.close()
-        worker.close()
-
+def application(service: Service, lifespan: Callable[[Starlette], AbstractAsyncContextManager[None]]) -> Starlette:
+    """The application of a service."""
     routes = [Route("/claim", service.claim, methods=["POST"]), Route("/forget", service.forget, methods=["POST"]),
               Route("/find", service.find, methods=["POST"]), Route("/same", service.same, methods=["POST"]),
-              Route("/status", service.status, methods=["GET"]), Route("/", service.home, methods=["GET"]),
+              Route("/status", service.status, methods=["GET"]), Route("/health", service.health, methods=["GET"]),
+              Route("/metrics", service.metrics, methods=["GET"]), Route("/", service.home, methods=["GET"]),
               Route("/search", service.search, methods=["POST"]), Route("/why", service.why, methods=["POST"])]
-    faults: dict[Any, Any] = {kind: _failed for kind in (Refused, Fault, RegistryError)}
+    faults: dict[Any, Any] = {kind: service.failed for kind in (Refused, Fault, HTTPException, RegistryError, Exception)}
     return Starlette(routes=routes, exception_handlers=faults, lifespan=lifespan)
 
 
-def token_in(path: Optional[str]) -> Optional[str]:
-    """The first line of a file."""
-    if path is None:
-        return None
-    token = Path(path).read_text(encoding="utf-8").partition("\n")[0].strip()
-    if len(token) < 16:
-        raise StoreError(f"{path}: a token has 16 characters or more")
-    return token
-
-
-def serve(store: str, host: str, port: int, token_file: Optional[str]) -> int:
-    """Serves a store until the process is told to end, or the log is not what nodes wrote: then the status is 4."""
-    token = token_in(token_file)
-    worker = Worker(store)
-    print(f"npss-registry: {store} at http://{host}:{port}/" + ("" if token else ", to be read alone"), file=sys.stderr)
-    server = uvicorn.Server(uvicorn.Config(application(worker, token), host=host, port=port, log_level="warning"))
-    worker.on_failure = lambda: setattr(server, "should_exit", True)
-    server.run()
-    if worker.failure is not None:
-        print(f"npss-registry: the node has stopped: {worker.failure}", file=sys.stderr)
-        return 4
-    return 0
+PATHS = ("/", "/claim", "/forget", "/find", "/same", "/status", "/health", "/metrics", "/search", "/why")

@@ -1,20 +1,19 @@
 """A shard: the registered strings of its log, and the proved node that holds those that its version assigns."""
 
-from collections.abc import Sequence
+from collections.abc import Iterator, Sequence
 from typing import NamedTuple, Optional
 
 from npss import Accepted, Node, Refused, Tables, Unassigned
 
 from npss_registry import records
-from npss_registry.errors import LogBroken, NotOneChain
-from npss_registry.logs import Log
-from npss_registry.records import Claim, Forget, Record, Setup
+from npss_registry.errors import LogBroken, LogEnded, NotOneChain, StoreError
+from npss_registry.examine import Examiner
+from npss_registry.logs import PIECE, Log, may_go_on, record_at
+from npss_registry.records import Claim, End, Forget, Record
 from npss_registry.store import Event, Registration, Store
 
 # An image is saved when so many records were read behind the last one.
 SAVE_AFTER = 4096
-# A log is read in pieces of so many records.
-PIECE = 1000
 
 
 class Outcome(NamedTuple):
@@ -41,30 +40,80 @@ class Shard:
         self._store = store
         self._log = log
         self._version = version
+        self._examiner = Examiner(store.setup, number, tables)
         row = store.shard(number)
         self.place = row.place
         self._behind = 0
         self._count = store.count(number)
-        self._sum = row.sum
-        self.node = Node.restore(tables, row.image, store.setup.form, store.setup.room)
-        self._check_last(log.record(number, self.place))
-        self._redo(row.image_place)
+        self._last, self._sum = row.last, row.sum or records.NOTHING_READ
+        # Whether the log may have more behind what was read last.
+        self.more = False
+        # Behind which record the shard ends, and where the registry goes on.
+        self.end: Optional[tuple[int, str]] = None
+        # The running sums that a store of an earlier layout has not yet: that of the place, and that of the image's.
+        self._established: Optional[tuple[bytes, bytes]] = None
+        try:
+            self.node = Node.restore(tables, row.image, store.setup.form, store.setup.room)
+        except Refused as error:
+            raise StoreError(f"{store.path}: shard {number}: the image is damaged: {type(error).__name__}: {error}") from error
+        self._check_last(record_at(log, number, self.place))
+        if row.sum is None or row.image_sum is None:
+            self._establish(row.image_place)
+        else:
+            self._redo(row.image_place, row.image_sum)
 
     def _check_last(self, found: Optional[bytes]) -> None:
         """A log that lost its tail, or another log, is never read on."""
-        if self.place and (found is None or records.sum_of(found) != self._sum):
+        if self.place and (found is None or records.sum_of(found) != self._last):
             raise LogBroken(self.place, "the record that this node read last is "
                             + ("missing" if found is None else "another one") + "; see `npss-registry relog`")
 
-    def _redo(self, at: int) -> None:
-        """Takes what stands between the image's place and the one where the store stands."""
+    def _read_again(self, at: int) -> Iterator[tuple[int, bytes]]:
+        """The records behind a place, up to that where the store stands."""
         while at < self.place:
             piece = self._log.read(self.number, at, PIECE)
             if not piece:
                 raise LogBroken(at, "what stood behind it is missing")
-            for at, body in piece:
-                if at <= self.place:
-                    self._redo_one(at, records.read(at, body))
+            yield from (one for one in piece if one[0] <= self.place)
+            at = piece[-1][0]
+
+    def _redo(self, at: int, total: bytes) -> None:
+        """Takes what stands between the image's place and the one where the store stands, whose running sum is known."""
+        for place, body in self._read_again(at):
+            record = self._record(place, body, first=total == records.NOTHING_READ)
+            total = records.sum_behind(total, place, records.sum_of(body))
+            self._redo_one(place, record)
+        if total != self._sum:
+            raise LogBroken(self.place, "what this node read before it was another one; see `npss-registry relog`")
+
+    def _establish(self, image_place: int) -> None:
+        """Makes the running sums of a store that has none by reading the log once more from its beginning.
+
+        Since no sum tells that this is what was read then, each record is held against what the store made of it.
+        """
+        total = image_total = records.NOTHING_READ
+        made = ended = 0
+        for place, body in self._read_again(0):
+            record = self._record(place, body, first=total == records.NOTHING_READ)
+            total = records.sum_behind(total, place, records.sum_of(body))
+            image_total = total if place <= image_place else image_total
+            row = self._store.at(self.number, record.place if isinstance(record, Forget) else place)
+            if isinstance(record, Forget):
+                ended += row is not None and row.ended == place
+            elif row is not None:
+                if not isinstance(record, Claim) or (row.string, row.key, row.owner) != (record.string, record.key, record.owner):
+                    raise LogBroken(place, f"the store has {row.string!r} of {row.owner!r} from it; see `npss-registry relog`")
+                made += 1
+            if place > image_place:
+                self._redo_one(place, record)
+        if (made, ended) != self._store.counts(self.number):
+            raise LogBroken(self.place, "the store has registrations and ends that don't stand before it; see `npss-registry relog`")
+        self._sum = total
+        self._established = total, image_total
+
+    def _record(self, place: int, body: bytes, first: bool = False) -> Record:
+        """The record of bytes at a place, which was examined."""
+        return self._examiner.record(place, body, first)
 
     def _redo_one(self, place: int, record: Record) -> None:
         if isinstance(record, Claim):
@@ -75,39 +124,52 @@ class Shard:
             if named and named.ended == place:
                 self.node.forget(record.string)
 
+    @property
+    def count(self) -> int:
+        """How many strings are registered."""
+        return self._count
+
     # ---- records
 
     def read(self) -> list[tuple[int, bytes]]:
         """The next records of the log, at most a piece of them, behind the one that was read last."""
         if not self.place:
-            return self._log.read(self.number, 0, PIECE)
+            found = self._log.read(self.number, 0, PIECE)
+            self.more = may_go_on(found, PIECE)
+            return found
         found = self._log.read(self.number, self.place - 1, PIECE + 1)
+        self.more = may_go_on(found, PIECE + 1)
         self._check_last(found[0][1] if found and found[0][0] == self.place else None)
         return found[1:]
 
     def apply(self, piece: Sequence[tuple[int, bytes]]) -> dict[int, Outcome]:
-        """Applies the next records, within a transaction of the store, and tells what became of each."""
-        outcomes = {}
+        """Applies the next records up to the shard's end, within a transaction of the store, and tells what became of each."""
+        outcomes: dict[int, Outcome] = {}
         for place, body in piece:
-            outcomes[place] = self._apply_one(place, records.read(place, body))
-            self.place = place
-        if piece:
-            self._sum = records.sum_of(piece[-1][1])
-            self._store.applied(self.number, self.place, self._sum)
-        self._behind += len(piece)
+            record = self._record(place, body, first=not self.place)
+            if isinstance(record, End):
+                self.end = place, record.log
+                break
+            outcomes[place] = self._apply_one(place, record)
+            self.place, self._last = place, records.sum_of(body)
+            self._sum = records.sum_behind(self._sum, place, self._last)
+        if outcomes and self._last is not None:
+            self._store.applied(self.number, self.place, self._last, self._sum)
+        self._behind += len(outcomes)
         if self._behind >= SAVE_AFTER:
             self.save()
         return outcomes
 
+    def check_end(self) -> None:
+        """LogEnded where the shard was read to its end."""
+        if self.end is not None:
+            raise LogEnded(*self.end)
+
     def _apply_one(self, place: int, record: Record) -> Outcome:
-        if not self.place and not isinstance(record, Setup):
-            raise LogBroken(place, "no setup stands before it")
         if isinstance(record, Claim):
             return self._claim(place, record)
         if isinstance(record, Forget):
             return self._forget(place, record)
-        if self.place or record != self._store.setup:
-            raise LogBroken(place, "a second setup" if self.place else "another setup than the store's")
         return Outcome("set up")
 
     def decided(self, claim: Claim) -> Optional[Outcome]:
@@ -164,20 +226,27 @@ class Shard:
 
     def note_restart(self) -> None:
         """Writes that the node began again with its image."""
+        self._write_established()
         self._store.note(self.number, Event("restart", self.place, self._version))
 
     def begin_journal(self) -> None:
         """Begins the journal anew, with what the node keeps."""
+        self._write_established()
         self._store.begin_journal(self.number, self.node.image(), self.place, self._version)
         self._behind = 0
+
+    def _write_established(self) -> None:
+        if self._established is not None:
+            self._store.established(self.number, *self._established)
+            self._established = None
 
     def parked_claims(self) -> list[tuple[int, Claim]]:
         """The claims of the strings that are parked, from the log, with their places."""
         return [(parked.place, self._claim_at(parked.place)) for parked in self._store.parked(self.number)]
 
     def _claim_at(self, place: int) -> Claim:
-        body = self._log.record(self.number, place)
-        claim = None if body is None else records.read(place, body)
+        body = record_at(self._log, self.number, place)
+        claim = None if body is None else self._record(place, body)
         if not isinstance(claim, Claim):
             raise LogBroken(place, "the claim of a parked string is missing")
         return claim
@@ -188,6 +257,7 @@ class Shard:
         if first is not None:
             raise NotOneChain(first)
         self._version = version
+        self._examiner.tables = tables
         self._store.note(self.number, Event("upgrade", self.place, version))
         for place, claim in parked:
             if self._take(place, claim) is None:

@@ -1,52 +1,26 @@
 """What a machine keeps of a registry: a SQLite file that stands whole after each transaction."""
 
-import fcntl
-import hashlib
 import os
 import secrets
 import sqlite3
 import zlib
-from collections.abc import Iterator
-from contextlib import contextmanager
-from dataclasses import dataclass
-from typing import Any, NamedTuple, Optional
+from collections.abc import Iterator, Sequence
+from contextlib import closing, contextmanager, suppress
+from dataclasses import replace
+from typing import Any, Optional
 
-from npss import Tables
+from npss_registry.errors import StoreError
+from npss_registry.failures import told
+from npss_registry.images import first_of, whole, write_rest
+from npss_registry.layout import LAYOUT, TABLES, execute, raise_layout
+from npss_registry.lock import Lock
+from npss_registry.logs import located, uri_path, uri_to_read
+from npss_registry.records import NOTHING_READ, Setup, form_of
+from npss_registry.rows import Event as Event
+from npss_registry.rows import Registration as Registration
+from npss_registry.rows import ShardRow as ShardRow
+from npss_registry.rows import Version as Version
 
-from npss_registry.errors import InUse, StoreError
-from npss_registry.records import Setup, form_of
-
-_LAYOUT = 2
-# Images stand apart from places: a batch writes places, and would read what stands beside them.
-_PLACES = "CREATE TABLE shard (number INTEGER PRIMARY KEY, place INTEGER NOT NULL, sum BLOB)"
-_REGISTERED = "CREATE UNIQUE INDEX registered ON registration (shard, key, string) WHERE ended IS NULL"
-_TABLES = f"""
-CREATE TABLE setup (layout INTEGER NOT NULL, form TEXT NOT NULL, room INTEGER NOT NULL, shards INTEGER NOT NULL,
-    equivalents INTEGER NOT NULL, log TEXT NOT NULL, node TEXT NOT NULL, openings INTEGER NOT NULL);
-CREATE TABLE version (number INTEGER PRIMARY KEY, data BLOB NOT NULL, exclusions BLOB NOT NULL,
-    data_sum BLOB NOT NULL, exclusions_sum BLOB NOT NULL, assigned INTEGER NOT NULL);
-{_PLACES};
-CREATE TABLE image (number INTEGER PRIMARY KEY, image BLOB NOT NULL, image_place INTEGER NOT NULL, base BLOB NOT NULL,
-    base_place INTEGER NOT NULL, base_version INTEGER NOT NULL);
-CREATE TABLE registration (shard INTEGER NOT NULL, place INTEGER NOT NULL, string BLOB NOT NULL, key BLOB NOT NULL,
-    owner TEXT NOT NULL, refused TEXT, parked INTEGER NOT NULL, ended INTEGER, PRIMARY KEY (shard, place)) WITHOUT ROWID;
-{_REGISTERED};
-CREATE INDEX parked_place ON registration (shard, place) WHERE parked;
-CREATE TABLE journal (number INTEGER PRIMARY KEY AUTOINCREMENT, shard INTEGER NOT NULL, event TEXT NOT NULL,
-    place INTEGER NOT NULL, version INTEGER NOT NULL);
-"""
-# What makes this layout of the first one.
-_RAISING = f"""
-ALTER TABLE shard RENAME TO image;
-{_PLACES};
-INSERT INTO shard SELECT number, place, sum FROM image;
-ALTER TABLE image DROP COLUMN place;
-ALTER TABLE image DROP COLUMN sum;
-DROP INDEX registered_string;
-DROP INDEX registered_key;
-{_REGISTERED};
-UPDATE setup SET layout = {_LAYOUT};
-"""
 # Registrations by an index: left to itself SQLite walks the places of the whole shard.
 _FOUND = "SELECT place, string, key, owner, refused, parked, ended FROM registration"
 _BY_KEY = f"{_FOUND} INDEXED BY registered WHERE shard = ? AND key = ? AND ended IS NULL"
@@ -54,63 +28,6 @@ _PARKED = f"{_FOUND} INDEXED BY parked_place WHERE shard = ? AND parked AND ende
 _BY_PLACE = f"{_FOUND} WHERE shard = ?"
 # SQLite keeps so many KiB of the file, and copies what it wrote back into it after so many pages.
 _CACHE, _PAGES = 65_536, 4_096
-
-
-class Registration(NamedTuple):
-    """A string that somebody has, or had until the place `ended`.
-
-    `refused` is what the node answered where it lacked a code point of the string when it came; `parked` whether it
-    lacks one still.
-    """
-
-    place: int
-    string: str
-    key: str
-    owner: str
-    refused: Optional[str]
-    parked: bool
-    ended: Optional[int]
-
-
-@dataclass(frozen=True)
-class ShardRow:
-    """How far a shard was read, with the sum of its last record; its last image; and what its journal began with."""
-
-    place: int
-    sum: Optional[bytes]
-    image: bytes
-    image_place: int
-    base: bytes
-    base_place: int
-    base_version: int
-
-
-@dataclass(frozen=True)
-class Event:
-    """An `upgrade`, a `save` or a `restart` of a shard's node, behind the record at its place, under a version by its number.
-
-    Of `taken` the place is that of the parked claim that the node took behind an upgrade.
-    """
-
-    event: str
-    place: int
-    version: int
-
-
-@dataclass(frozen=True)
-class Version:
-    """The two files of a version."""
-
-    data: bytes
-    exclusions: bytes
-
-    def tables(self) -> Tables:
-        return Tables.open(self.data, self.exclusions)
-
-    @property
-    def sums(self) -> tuple[bytes, bytes]:
-        """The SHA-256 of each file, by which a version is known."""
-        return hashlib.sha256(self.data).digest(), hashlib.sha256(self.exclusions).digest()
 
 
 def _registration(row: tuple[Any, ...]) -> Registration:
@@ -122,51 +39,69 @@ class Store:
     """The store of a path, to be read alone, or to be worked on by this process and no other."""
 
     def __init__(self, path: str, read_only: bool = False):
-        if not os.path.isfile(path):
-            raise StoreError(f"{path}: there is no store; make one with `npss-registry init`")
         self.path = path
-        self._lock = None if read_only else self._locked(path)
+        file = _file_of(path)
+        # What a relative path of the log counts from.
+        self.folder = os.path.dirname(file)
+        self._lock = None if read_only else Lock(file)
         try:
-            self._base = self._connected(path, read_only)
-            row = self._base.execute("SELECT * FROM setup").fetchone()
-        except sqlite3.DatabaseError as error:
+            self._base = self._connected(file, read_only)
+        except sqlite3.Error as error:
             self._unlock()
-            raise StoreError(f"{path}: it is no store: {error}") from error
-        if row is None or row[0] not in (1, _LAYOUT):
-            self.close()
-            raise StoreError(f"{path}: its layout is not one that this version reads")
-        if row[0] != _LAYOUT:
-            self._raise_layout(read_only)
-        self.setup = Setup(form_of(row[1]), row[2], row[3], bool(row[4]))
-        self.log, self.node, self._openings = row[5], row[6], row[7]
-
-    @staticmethod
-    def _locked(path: str) -> int:
-        lock = os.open(f"{path}-lock", os.O_RDWR | os.O_CREAT | os.O_CLOEXEC, 0o600)
+            raise told(path, error, "it is no store") from error
         try:
-            fcntl.flock(lock, fcntl.LOCK_EX | fcntl.LOCK_NB)
-        except OSError as error:
-            os.close(lock)
-            raise InUse(path) from error
-        return lock
+            self._read_setup(file, read_only)
+        except sqlite3.Error as error:
+            self.close()
+            raise told(path, error, "it is no store") from error
+        except BaseException:
+            self.close()
+            raise
+
+    def _read_setup(self, file: str, read_only: bool) -> None:
+        row = self._base.execute("SELECT layout FROM setup").fetchone()
+        if row is None or row[0] not in range(1, LAYOUT + 1):
+            raise StoreError(f"{self.path}: its layout is not one that this version reads")
+        if row[0] != LAYOUT:
+            if read_only:
+                raise StoreError(f"{self.path}: its layout is an earlier one; `npss-registry status` brings it to the present one")
+            with self.transaction():
+                raise_layout(self._base, file)
+        row = self._base.execute("SELECT form, room, shards, equivalents, name, log, node, openings, moving, most_bytes FROM setup").fetchone()
+        self.setup = Setup(form_of(row[0]), row[1], row[2], bool(row[3]), row[4], most_bytes=row[9])
+        # The log as it was named, and the one to which `relog` brings the store.
+        self.named_log, self.node, self._openings, self.moving = row[5:9]
+
+    @property
+    def log(self) -> str:
+        """The log, by which it can be opened from everywhere."""
+        return located(self.named_log, self.folder)
 
     @staticmethod
     def _connected(path: str, read_only: bool) -> sqlite3.Connection:
         mode = "ro" if read_only else "rw"
-        base = sqlite3.connect(f"file:{sqlite3_name(path)}?mode={mode}", uri=True, isolation_level=None,
+        base = sqlite3.connect(f"file:{uri_path(path)}?mode={mode}", uri=True, isolation_level=None,
                                check_same_thread=False, cached_statements=256)
         base.execute("PRAGMA synchronous = FULL")
         base.execute(f"PRAGMA cache_size = -{_CACHE}")
         base.execute(f"PRAGMA wal_autocheckpoint = {_PAGES}")
         return base
 
-    def _raise_layout(self, read_only: bool) -> None:
-        """Brings a store of the first layout to the present one."""
-        if read_only:
-            self.close()
-            raise StoreError(f"{self.path}: its layout is an earlier one; `npss-registry status` brings it to the present one")
-        with self.transaction():
-            _execute(self._base, _RAISING)
+    @classmethod
+    def copied(cls, path: str, to: str) -> "Store":
+        """A copy of a store, of one moment, whatever others write meanwhile; in the present layout."""
+        file = _file_of(path)
+        try:
+            with closing(sqlite3.connect(uri_to_read(file), uri=True)) as base, closing(sqlite3.connect(to)) as copy:
+                base.backup(copy)
+                copy.execute("BEGIN")
+                raise_layout(copy, file)
+                copy.execute("COMMIT")
+        except sqlite3.Error as error:
+            raise told(path, error, "it is no store") from error
+        made = cls(to, read_only=True)
+        made.path, made.folder = path, os.path.dirname(file)
+        return made
 
     @classmethod
     def create(cls, path: str, setup: Setup, log: str, version: Version, empty: bytes) -> None:
@@ -179,11 +114,11 @@ class Store:
             base.execute("PRAGMA journal_mode = WAL")
             base.execute("PRAGMA synchronous = FULL")
             base.execute("BEGIN")
-            _execute(base, _TABLES)
-            base.execute("INSERT INTO setup VALUES (?, ?, ?, ?, ?, ?, ?, ?)",
-                         (_LAYOUT, setup.form, setup.room, setup.shards, setup.equivalents, log, secrets.token_hex(8), 0))
+            execute(base, TABLES)
+            base.execute("INSERT INTO setup VALUES (?, ?, ?, ?, ?, ?, ?, 0, ?, NULL, ?)",
+                         (LAYOUT, setup.form, setup.room, setup.shards, setup.equivalents, log, secrets.token_hex(8), setup.name, setup.most_bytes))
             _add_version(base, 0, version)
-            base.executemany("INSERT INTO shard VALUES (?, 0, NULL)", ((number,) for number in range(setup.shards)))
+            base.executemany("INSERT INTO shard VALUES (?1, 0, NULL, ?2, ?2, 0)", ((number, NOTHING_READ) for number in range(setup.shards)))
             base.executemany("INSERT INTO image VALUES (?1, ?2, 0, ?2, 0, 0)", ((number, empty) for number in range(setup.shards)))
             base.execute("COMMIT")
             base.close()
@@ -203,7 +138,7 @@ class Store:
 
     def _unlock(self) -> None:
         if self._lock is not None:
-            os.close(self._lock)
+            self._lock.release()
             self._lock = None
 
     @contextmanager
@@ -228,12 +163,24 @@ class Store:
             self._base.execute("ROLLBACK")
 
     def backup(self, to: str) -> None:
-        """Copies the store into a new file, while others may read this one."""
+        """Copies the store into a new file, of one moment, while others work on this one. What couldn't be copied whole isn't left."""
         if os.path.exists(to):
             raise StoreError(f"{to}: there is a file of this name already")
-        with sqlite3.connect(to) as copy:
-            self._base.backup(copy)
-        copy.close()
+        try:
+            with closing(sqlite3.connect(to)) as copy:
+                self._base.backup(copy)
+        except sqlite3.Error as error:
+            for end in ("", "-journal"):
+                with suppress(OSError):
+                    os.unlink(to + end)
+            raise told(to, error, "the copy can't be written") from error
+
+    def faults(self) -> list[str]:
+        """What SQLite finds wrong in the file, as an index that differs from its table."""
+        try:
+            return [str(row[0]) for row in self._base.execute("PRAGMA integrity_check") if row[0] != "ok"]
+        except sqlite3.DatabaseError as error:
+            return [str(error)]
 
     # ---- where it stands
 
@@ -241,12 +188,16 @@ class Store:
     def was_brought_back(self) -> bool:
         """Whether this isn't the file that was opened last under its name, but a backup of an earlier time or another place."""
         assert self._lock is not None
-        told = os.pread(self._lock, 100, 0).decode()
-        return told != self._mark() if self._openings else bool(told)
+        told = self._lock.told.split()
+        if not self._openings:
+            return bool(told)
+        # Earlier versions didn't tell the file, which is another one where a folder was copied whole.
+        return told not in (self._mark(), self._mark()[:2])
 
-    def _mark(self) -> str:
+    def _mark(self) -> list[str]:
         """What the lock's file tells of the last opening."""
-        return f"{self.node} {self._openings}\n"
+        assert self._lock is not None
+        return [self.node, str(self._openings), str(self._lock.inode)]
 
     def rename_node(self) -> None:
         """Gives the node another name, since its old one goes on elsewhere."""
@@ -261,14 +212,20 @@ class Store:
     def note_opening(self) -> None:
         """Tells beside the store which opening was the last. Where that fails, the next one takes it for a backup."""
         assert self._lock is not None
-        os.ftruncate(self._lock, 0)
-        os.pwrite(self._lock, self._mark().encode(), 0)
-        os.fsync(self._lock)
+        self._lock.tell(" ".join(self._mark()) + "\n")
 
     def versions(self) -> list[Version]:
         """The chain of versions, the earliest first. The last is in use."""
         rows = self._base.execute("SELECT data, exclusions FROM version ORDER BY number").fetchall()
-        return [Version(zlib.decompress(data), zlib.decompress(exclusions)) for data, exclusions in rows]
+        try:
+            return [Version(zlib.decompress(data), zlib.decompress(exclusions)) for data, exclusions in rows]
+        except zlib.error as error:
+            raise StoreError(f"{self.path}: the files of a version are damaged: {error}") from error
+
+    def version_sums(self) -> list[tuple[tuple[bytes, bytes], int]]:
+        """What the store tells of each version: the sums of its files, and how many code points it assigns."""
+        rows = self._base.execute("SELECT data_sum, exclusions_sum, assigned FROM version ORDER BY number")
+        return [((data, exclusions), assigned) for data, exclusions, assigned in rows]
 
     def add_version(self, version: Version) -> int:
         """Adds the next version of the chain, and answers its number."""
@@ -276,44 +233,79 @@ class Store:
         _add_version(self._base, number, version)
         return int(number)
 
-    def shard(self, number: int) -> ShardRow:
-        row = self._base.execute("SELECT place, sum, image, image_place, base, base_place, base_version "
-                                 "FROM shard JOIN image USING (number) WHERE number = ?", (number,)).fetchone()
-        return ShardRow(*row)
+    def places(self) -> list[int]:
+        """How far each shard was read."""
+        return [int(place) for place, in self._base.execute("SELECT place FROM shard ORDER BY number")]
 
-    def applied(self, number: int, place: int, total: bytes) -> None:
-        """Writes how far a shard was read, with the sum of its last record."""
-        self._base.execute("UPDATE shard SET place = ?, sum = ? WHERE number = ?", (place, total, number))
+    def shard(self, number: int) -> ShardRow:
+        row = self._base.execute("SELECT place, last, sum, image, image_place, image_sum, base, base_place, base_version, events "
+                                 "FROM shard JOIN image USING (number) WHERE number = ?", (number,)).fetchone()
+        found = ShardRow(*row)
+        return replace(found, image=whole(self._base, number, "image", found.image), base=whole(self._base, number, "base", found.base))
+
+    def applied(self, number: int, place: int, last: bytes, total: bytes) -> None:
+        """Writes how far a shard was read, with the sum of its last record and the running sum."""
+        self._base.execute("UPDATE shard SET place = ?, last = ?, sum = ? WHERE number = ?", (place, last, total, number))
+
+    def established(self, number: int, total: bytes, image_total: bytes) -> None:
+        """Writes the running sums of a shard that a store of an earlier layout hasn't."""
+        self._base.execute("UPDATE shard SET sum = ?, image_sum = ? WHERE number = ?", (total, image_total, number))
 
     def save(self, number: int, image: bytes, place: int, version: int) -> None:
-        """Writes the image of a shard's node behind the record at a place."""
-        self._base.execute("UPDATE image SET image = ?, image_place = ? WHERE number = ?", (image, place, number))
+        """Writes the image of a shard's node behind the record at the place where the shard stands."""
+        self._base.execute("UPDATE image SET image = ?, image_place = ? WHERE number = ?", (first_of(image), place, number))
+        write_rest(self._base, number, "image", image)
+        self._base.execute("UPDATE shard SET image_sum = sum WHERE number = ?", (number,))
         self.note(number, Event("save", place, version))
 
     def begin_journal(self, number: int, image: bytes, place: int, version: int) -> None:
         """Begins a shard's journal anew with what its node keeps now."""
         self._base.execute("DELETE FROM journal WHERE shard = ?", (number,))
         self._base.execute("UPDATE image SET image = ?1, image_place = ?2, base = ?1, base_place = ?2, base_version = ?3 "
-                           "WHERE number = ?4", (image, place, version, number))
+                           "WHERE number = ?4", (first_of(image), place, version, number))
+        write_rest(self._base, number, "image", image)
+        write_rest(self._base, number, "base", image)
+        self._base.execute("UPDATE shard SET image_sum = sum, events = 0 WHERE number = ?", (number,))
 
     def note(self, number: int, event: Event) -> None:
         """Appends an event to a shard's journal."""
         self._base.execute("INSERT INTO journal (shard, event, place, version) VALUES (?, ?, ?, ?)",
                            (number, event.event, event.place, event.version))
+        self._base.execute("UPDATE shard SET events = events + 1 WHERE number = ?", (number,))
 
     def journal(self, number: int) -> list[Event]:
         rows = self._base.execute("SELECT event, place, version FROM journal WHERE shard = ? ORDER BY number", (number,))
         return [Event(*row) for row in rows]
 
-    def forget_log(self, log: str, empty: bytes) -> None:
+    # ---- going over to another log
+
+    def begin_moving(self, log: str, lost: Sequence[tuple[int, Registration]]) -> None:
+        """Writes that the store goes over to another log, and what will be lost, each with its shard. No node opens it until it is there."""
+        with self.transaction():
+            self._base.execute("UPDATE setup SET moving = ?", (log,))
+            self.lose(lost)
+        self.moving = log
+
+    def lose(self, lost: Sequence[tuple[int, Registration]]) -> None:
+        """Writes what is lost, and nothing else is."""
+        self._base.execute("DELETE FROM lost")
+        self._base.executemany("INSERT INTO lost VALUES (?, ?, ?, ?, ?)",
+                               ((shard, one.place, one.string.encode(), one.key.encode(), one.owner) for shard, one in lost))
+
+    def lost(self) -> list[Registration]:
+        """What the store had registered and the log to which it went over last has not, at its old places."""
+        return list(self._some("SELECT place, string, key, owner, NULL, 0, NULL FROM lost ORDER BY shard, place"))
+
+    def move(self, log: str, setup: Setup, empty: bytes) -> None:
         """Begins anew over another log: nothing is registered, and nothing was read. `empty` is an empty node's image."""
         version = self._base.execute("SELECT max(number) FROM version").fetchone()[0]
         self._base.execute("DELETE FROM registration")
         self._base.execute("DELETE FROM journal")
-        self._base.execute("UPDATE shard SET place = 0, sum = NULL")
+        self._base.execute("UPDATE shard SET place = 0, last = NULL, sum = ?1, image_sum = ?1, events = 0", (NOTHING_READ,))
         self._base.execute("UPDATE image SET image = ?1, image_place = 0, base = ?1, base_place = 0, base_version = ?2", (empty, version))
-        self._base.execute("UPDATE setup SET log = ?", (log,))
-        self.log = log
+        self._base.execute("DELETE FROM image_rest")
+        self._base.execute("UPDATE setup SET log = ?, name = ?, moving = NULL", (log, setup.name))
+        self.named_log, self.setup, self.moving = log, setup, None
         self.rename_node()
 
     # ---- registrations
@@ -346,10 +338,35 @@ class Store:
         """The registrations of which the node lacks a code point, in the order of their places."""
         return list(self._some(_PARKED, number))
 
+    def parked_counts(self) -> dict[int, int]:
+        """How many registrations are parked, by their shards; shards without any are left out."""
+        return dict(self._base.execute("SELECT shard, count(*) FROM registration INDEXED BY parked_place WHERE parked AND ended IS NULL "
+                                       "GROUP BY shard"))
+
+    def first_parked(self, most: int) -> list[tuple[int, str]]:
+        """The first parked strings of all shards, at most so many, each with its shard."""
+        rows = self._base.execute("SELECT shard, string FROM registration INDEXED BY parked_place WHERE parked AND ended IS NULL "
+                                  "ORDER BY shard, place LIMIT ?", (most,))
+        return [(shard, string.decode()) for shard, string in rows]
+
+    def registered_counts(self) -> dict[int, int]:
+        """How many strings are registered, by their shards; shards without any are left out."""
+        return dict(self._base.execute("SELECT shard, count(*) FROM registration WHERE ended IS NULL GROUP BY shard"))
+
+    @property
+    def data_version(self) -> int:
+        """A number that is another one once somebody else has written to the store."""
+        return int(self._base.execute("PRAGMA data_version").fetchone()[0])
+
     def count(self, number: int) -> int:
         """How many strings are registered."""
         return int(self._base.execute("SELECT count(*) FROM registration WHERE shard = ? AND ended IS NULL",
                                       (number,)).fetchone()[0])
+
+    def counts(self, number: int) -> tuple[int, int]:
+        """How many registrations there ever were, and how many of them ended."""
+        made, ended = self._base.execute("SELECT count(*), count(ended) FROM registration WHERE shard = ?", (number,)).fetchone()
+        return int(made), int(ended)
 
     def register(self, number: int, new: Registration) -> None:
         self._base.execute("INSERT INTO registration VALUES (?, ?, ?, ?, ?, ?, ?, ?)",
@@ -369,15 +386,18 @@ class Store:
         return next(self._some(query, *given), None)
 
 
-def _execute(base: sqlite3.Connection, statements: str) -> None:
-    """Executes statements, within the transaction of who asks."""
-    for statement in statements.split(";\n"):
-        base.execute(statement)
-
-
-def sqlite3_name(path: str) -> str:
-    """A path as SQLite's URIs spell it."""
-    return os.path.abspath(path).replace("%", "%25").replace("?", "%3f").replace("#", "%23")
+def _file_of(path: str) -> str:
+    """The file of a store, without symbolic links. StoreError where there is none, or who asks may not look."""
+    file = os.path.realpath(path)
+    try:
+        os.stat(file)
+    except (FileNotFoundError, NotADirectoryError) as error:
+        raise StoreError(f"{path}: there is no store; make one with `npss-registry init`") from error
+    except OSError as error:
+        raise StoreError(f"{path}: {error.strerror.lower()}") from error
+    if not os.path.isfile(file):
+        raise StoreError(f"{path}: it is no file")
+    return file
 
 
 def _add_version(base: sqlite3.Connection, number: int, version: Version) -> None:

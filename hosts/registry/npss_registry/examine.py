@@ -1,0 +1,64 @@
+"""What a node examines of a record before anything is decided by it."""
+
+from typing import Optional
+
+from npss import Tables, Unassigned
+
+from npss_registry import records
+from npss_registry.errors import LogBroken
+from npss_registry.records import Claim, Forget, Record, Setup
+
+
+class Examiner:
+    """Examines the records of a shard, whatever they will come to. LogBroken of one that no node wrote."""
+
+    def __init__(self, setup: Setup, shard: int, tables: Tables):
+        self.setup = setup
+        self.shard = shard
+        # By which keys are made anew.
+        self.tables = tables
+        self._form_byte = records.form_byte(setup.form)
+        self._layout = 2 if setup.name else 1
+
+    def record(self, place: int, body: bytes, first: bool) -> Record:
+        """The record of bytes at a place. `first` is whether it is the shard's first one."""
+        record = records.read(place, body, self._layout)
+        if isinstance(record, Claim) and not first:
+            self._check_claim(place, record)
+        elif first or isinstance(record, Setup):
+            self._check_setup(place, record, first)
+        elif isinstance(record, Forget):
+            self._check_shard(place, self._key(record.string))
+        return record
+
+    def _check_setup(self, place: int, record: Record, first: bool) -> None:
+        if not isinstance(record, Setup):
+            raise LogBroken(place, "no setup stands before it")
+        if not first:
+            raise LogBroken(place, "a second setup")
+        if record != self.setup:
+            raise LogBroken(place, "another setup than the store's")
+
+    def _check_claim(self, place: int, claim: Claim) -> None:
+        if claim.message[:1] != self._form_byte:
+            raise LogBroken(place, "its message is of another form")
+        most = self.setup.most_bytes
+        if len(claim.message) > most and len(claim.string.encode()) > most:
+            raise LogBroken(place, f"its string has more than {most:,} bytes")
+        # The key of a string with code points that this version lacks can't be made: the record's own is gone by.
+        if self._key(claim.string) not in (None, claim.key):
+            raise LogBroken(place, "its key is not that of its string")
+        self._check_shard(place, claim.key)
+
+    def _check_shard(self, place: int, key: Optional[str]) -> None:
+        if key is not None and self.setup.shards > 1:
+            shard = records.shard_of(key, self.setup.shards)
+            if shard != self.shard:
+                raise LogBroken(place, f"it stands in shard {self.shard} and belongs to shard {shard}")
+
+    def _key(self, string: str) -> Optional[str]:
+        """The key of a string; None where this version lacks a code point of it."""
+        try:
+            return self.tables.key(string, self.setup.form)
+        except Unassigned:
+            return None

@@ -1,0 +1,85 @@
+"""The tables of a store, and how a store of an earlier layout is brought to the present one."""
+
+import os
+import sqlite3
+
+from npss_registry.logs import scheme_of
+
+LAYOUT = 3
+_REGISTERED = "CREATE UNIQUE INDEX registered ON registration (shard, key, string) WHERE ended IS NULL"
+_REST = "CREATE TABLE image_rest (shard INTEGER NOT NULL, of TEXT NOT NULL, number INTEGER NOT NULL, body BLOB NOT NULL, PRIMARY KEY (shard, of, number))"
+_LOST = "CREATE TABLE lost (shard INTEGER NOT NULL, place INTEGER NOT NULL, string BLOB NOT NULL, key BLOB NOT NULL, owner TEXT NOT NULL)"
+# Images stand apart from places: a batch writes places, and would read what stands beside them.
+TABLES = f"""
+CREATE TABLE setup (layout INTEGER NOT NULL, form TEXT NOT NULL, room INTEGER NOT NULL, shards INTEGER NOT NULL,
+    equivalents INTEGER NOT NULL, log TEXT NOT NULL, node TEXT NOT NULL, openings INTEGER NOT NULL, name TEXT NOT NULL DEFAULT '',
+    moving TEXT, most_bytes INTEGER NOT NULL DEFAULT 65536);
+CREATE TABLE version (number INTEGER PRIMARY KEY, data BLOB NOT NULL, exclusions BLOB NOT NULL,
+    data_sum BLOB NOT NULL, exclusions_sum BLOB NOT NULL, assigned INTEGER NOT NULL);
+CREATE TABLE shard (number INTEGER PRIMARY KEY, place INTEGER NOT NULL, last BLOB, sum BLOB, image_sum BLOB, events INTEGER NOT NULL DEFAULT 0);
+CREATE TABLE image (number INTEGER PRIMARY KEY, image BLOB NOT NULL, image_place INTEGER NOT NULL, base BLOB NOT NULL,
+    base_place INTEGER NOT NULL, base_version INTEGER NOT NULL);
+CREATE TABLE registration (shard INTEGER NOT NULL, place INTEGER NOT NULL, string BLOB NOT NULL, key BLOB NOT NULL,
+    owner TEXT NOT NULL, refused TEXT, parked INTEGER NOT NULL, ended INTEGER, PRIMARY KEY (shard, place)) WITHOUT ROWID;
+{_REGISTERED};
+CREATE INDEX parked_place ON registration (shard, place) WHERE parked;
+CREATE TABLE journal (number INTEGER PRIMARY KEY AUTOINCREMENT, shard INTEGER NOT NULL, event TEXT NOT NULL,
+    place INTEGER NOT NULL, version INTEGER NOT NULL);
+{_LOST};
+{_REST};
+"""
+# What makes the next layout of an earlier one.
+_RAISING = {
+    1: f"""
+ALTER TABLE shard RENAME TO image;
+CREATE TABLE shard (number INTEGER PRIMARY KEY, place INTEGER NOT NULL, sum BLOB);
+INSERT INTO shard SELECT number, place, sum FROM image;
+ALTER TABLE image DROP COLUMN place;
+ALTER TABLE image DROP COLUMN sum;
+DROP INDEX registered_string;
+DROP INDEX registered_key;
+{_REGISTERED};
+UPDATE setup SET layout = 2;
+""",
+    2: f"""
+ALTER TABLE shard RENAME COLUMN sum TO last;
+ALTER TABLE shard ADD COLUMN sum BLOB;
+ALTER TABLE shard ADD COLUMN image_sum BLOB;
+ALTER TABLE shard ADD COLUMN events INTEGER NOT NULL DEFAULT 0;
+UPDATE shard SET events = (SELECT count(*) FROM journal WHERE journal.shard = shard.number);
+ALTER TABLE setup ADD COLUMN name TEXT NOT NULL DEFAULT '';
+ALTER TABLE setup ADD COLUMN moving TEXT;
+ALTER TABLE setup ADD COLUMN most_bytes INTEGER NOT NULL DEFAULT 65536;
+{_LOST};
+{_REST};
+UPDATE setup SET layout = 3;
+""",
+}
+
+
+def execute(base: sqlite3.Connection, statements: str) -> None:
+    """Executes statements, within the transaction of who asks."""
+    for statement in statements.split(";\n"):
+        base.execute(statement)
+
+
+def raise_layout(base: sqlite3.Connection, path: str) -> None:
+    """Brings the store of a path to the present layout, within the transaction of who asks."""
+    layout, log = base.execute("SELECT layout, log FROM setup").fetchone() or (LAYOUT, "")
+    if layout not in range(1, LAYOUT):
+        return
+    for number in range(layout, LAYOUT):
+        execute(base, _RAISING[number])
+    base.execute("UPDATE setup SET log = ?", (_log_of(path, log),))
+
+
+def _log_of(path: str, log: str) -> str:
+    """The log of a store of an earlier layout, whose relative path counted from the folder of who asked."""
+    if scheme_of(log) or os.path.isabs(log):
+        return log
+    folder, name = os.path.split(path)
+    own = f"{name}.log"
+    for found in (os.path.join(folder, own) if os.path.basename(log) == own else "", os.path.abspath(log)):
+        if found and os.path.exists(found):
+            return found
+    return log
