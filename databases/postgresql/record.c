@@ -13,7 +13,6 @@
 #include "funcapi.h"
 #include "mb/pg_wchar.h"
 #include "miscadmin.h"
-#include "postmaster/autovacuum.h"
 #include "storage/lmgr.h"
 #include "utils/backend_status.h"
 #include "utils/builtins.h"
@@ -146,14 +145,14 @@ open_recorded(const Row *row, Failure *failure)
 }
 
 /*
- * Whether the present command is ANALYZE, which asks for keys of rows that are stored already.  A session that tracks no
- * activities doesn't tell; autovacuum evaluates expressions for nothing else.
+ * Whether the present command is ANALYZE, which asks for keys of rows that are stored already, and stores none.  The process
+ * tells that by itself, unless it tracks no activities.  VACUUM is another command: it stores what it asks for in BRIN
+ * indexes.
  */
 static bool
 is_analyzing(void)
 {
-	return IsAutoVacuumWorkerProcess() ||
-		(MyBEEntry != NULL && MyBEEntry->st_progress_command == PROGRESS_COMMAND_ANALYZE);
+	return MyBEEntry != NULL && MyBEEntry->st_progress_command == PROGRESS_COMMAND_ANALYZE;
 }
 
 /*

@@ -16,6 +16,7 @@ from server import HERE, LIBRARIES, installed, own, run
 from test_attacks import Attacks, Missing, Preloaded
 from test_bounds import Bounds, Memory
 from test_record import Dumps, Ends, Standby, Upgrades
+from test_vacuum import Vacuums
 
 
 class Regress(Case):
