@@ -22,7 +22,7 @@ import ucd
 from harness import ROOT, Tally
 
 KEYS, RECORD, VERSIONS, SETTINGS, SQL = (f"postgresql/{name}" for name in ("keys.c", "record.c", "versions.c", "npss_pg.c", "npss--0.2.sql"))
-LITE, LITE_RECORD = "sqlite/npss_sqlite.c", "sqlite/record.c"
+LITE, LITE_RECORD, LITE_RAISE, LITE_FILES, LITE_ATTACHED = (f"sqlite/{name}.c" for name in ("npss_sqlite", "record", "raise", "files", "attached"))
 
 # The tests that are meant to find a bug, where it names no others.
 FIRST = {"postgresql": ["Regress"], "sqlite": ["Raises"]}
@@ -90,32 +90,66 @@ PLANTS = {
     "a name may be any text": (SQL, "CHECK (VALUE = npss_nfc(VALUE))", "CHECK (npss_nfc(VALUE) IS NOT NULL)"),
     "a dump lacks the record": (SQL, "SELECT pg_catalog.pg_extension_config_dump(", "SELECT concat(", "Dumps"),
     "a dump has the whole record": (SQL, "'WHERE assigned = (SELECT max(assigned) FROM @extschema@.npss_record)'", "''", "Dumps"),
-    # SQLite
-    "SQLite: a failed raise is not rolled back": (LITE_RECORD, "is_whole ? \"ROLLBACK\"", "is_whole ? \"RELEASE npss_raise\""),
-    "SQLite: a failed raise within a transaction is not rolled back": (LITE_RECORD, "\"ROLLBACK TO npss_raise; RELEASE npss_raise\"", "\"RELEASE npss_raise\""),
-    "SQLite: a failed raise ends somebody's transaction": (LITE_RECORD, "is_whole ? \"ROLLBACK\" : \"ROLLBACK TO npss_raise; RELEASE npss_raise\"", "is_whole ? \"ROLLBACK\" : \"ROLLBACK\""),
-    "SQLite: a failed raise leaves its transaction open": (LITE_RECORD, "sqlite3_exec(self->db, is_whole ?", "if (!is_whole) sqlite3_exec(self->db, is_whole ?"),
-    "SQLite: the audit is left out": (LITE_RECORD, "recorded > 0 && !extends(call, self, fresh)", "recorded > 0 && !extends(call, self, fresh) && 0"),
-    "SQLite: a raise doesn't wait": (LITE_RECORD, "\"UPDATE main.npss_record SET assigned = assigned\"", "\"SELECT 1\""),
-    "SQLite: a raise that is rolled back stays in use": (LITE_RECORD, "self->is_raising = self->has_raised = 1;", "self->is_raising = 1;"),
-    "SQLite: a first raise that is rolled back stays in use": (LITE_RECORD, "npss_close(&self->tables); /* it was undone */", "self->assigned = 0;"),
-    "SQLite: a failed raise closes what was opened": (LITE_RECORD, "self->is_recorded && self->has_raised && recorded_count", "self->tables.is_open && self->has_raised && recorded_count"),
-    "SQLite: what was opened hides the record": (LITE_RECORD, "now == self->assigned && self->is_recorded", "now == self->assigned", "Dumps"),
+    # SQLite: raises
+    "SQLite: a failed raise is not rolled back": (LITE_RAISE, "is_whole ? \"ROLLBACK\"", "is_whole ? \"RELEASE npss_raise\""),
+    "SQLite: a failed raise within a transaction is not rolled back": (LITE_RAISE, "\"ROLLBACK TO npss_raise; RELEASE npss_raise\"", "\"RELEASE npss_raise\""),
+    "SQLite: a failed raise ends somebody's transaction": (LITE_RAISE, "is_whole ? \"ROLLBACK\" : \"ROLLBACK TO npss_raise; RELEASE npss_raise\"", "is_whole ? \"ROLLBACK\" : \"ROLLBACK\""),
+    "SQLite: a failed raise leaves its transaction open": (LITE_RAISE, "run(self->db, is_whole ?", "if (!is_whole) run(self->db, is_whole ?"),
+    "SQLite: the audit is left out": (LITE_RAISE, "recorded > 0 && !extends(call, &self->tables, fresh)", "recorded > 0 && !extends(call, &self->tables, fresh) && 0"),
+    "SQLite: a raise forgets what was opened": (LITE_RAISE, "if (self->own.is_open && !extends(call, &self->own, fresh)) return 0;", "", "Opened"),
+    "SQLite: what is opened next may be any version": (LITE_RAISE, "!self->own.is_open || extends(call, &self->own, &fresh)", "1", "Opened"),
+    "SQLite: a raise doesn't wait": (LITE_RAISE, "\"UPDATE main.npss_record SET assigned = assigned\"", "\"SELECT 1\"", "Waits"),
+    "SQLite: a raise waits for nobody by itself": (LITE_RAISE, "== SQLITE_ROW && timeout == 0 ? PATIENCE : 0", "== SQLITE_ROW && timeout == 0 ? 0 : 0", "Waits"),
+    "SQLite: a raise waits within a transaction": (LITE_RAISE, "return sqlite3_get_autocommit(db) && ask_number", "return ask_number", "Waits"),
+    "SQLite: a raise never gives up": (LITE_RAISE, "waited += STEP", "waited += 0", "Waits"),
+    "SQLite: a commit waits for no reader": (LITE_RAISE, "run(db, \"RELEASE npss_raise\", patience)", "run(db, \"RELEASE npss_raise\", 0 * patience)", "Waits"),
+    "SQLite: a file that is too big is left out": (LITE_RAISE, "held->data_length, SQLITE_STATIC) == SQLITE_OK", "held->data_length, SQLITE_STATIC) >= 0"),
+    "SQLite: a full disk is not told": (LITE_RAISE, "sqlite3_step(put) != SQLITE_DONE", "sqlite3_step(put) < 0"),
+    "SQLite: the record is open to all": (LITE_RAISE, "BEFORE UPDATE ON npss_record WHEN NOT", "BEFORE UPDATE ON npss_record WHEN"),
+    "SQLite: triggers write beside a raise": (LITE_RAISE, "if (self->writes > 0) self->writes--;", ""),
+    "SQLite: the record is open behind a raise": (LITE_RAISE, "done = fail_by_database(call);\n    self->writes = 0;", "done = fail_by_database(call);\n    self->writes++;"),
+    "SQLite: audited tables stay open": (LITE_RAISE, "            else fail_memory(call);\n        }\n    }\n    npss_close(&fresh);", "            else fail_memory(call);\n        }\n    }", "Memory"),
+    "SQLite: any record keeps npss_open away": (LITE_RAISE, "ask_number(self->db, \"SELECT assigned FROM main.npss_record\"", "ask_number(self->db, \"SELECT assigned FROM npss_record\""),
+    # SQLite: which tables are in use
+    "SQLite: a raise that is rolled back stays in use": (LITE_RECORD, "settle(self, &now, !sqlite3_get_autocommit(self->db));", "settle(self, &now, 0);"),
+    "SQLite: behind a raise each key looks at the record": (LITE_RECORD, "settle(self, &now, !sqlite3_get_autocommit(self->db));", "settle(self, &now, 1);", "Looks"),
+    "SQLite: behind a raise's transaction each key looks at the record": (LITE_RECORD, "self->may_be_undone && now->pager == self->seen.pager", "self->may_be_undone", "Looks"),
+    "SQLite: a replaced database keeps its tables": (LITE_RECORD, "return data_version(self->db, NULL) == self->seen.pager;", "return 1;", "Replaced"),
+    "SQLite: a schema that changed is not looked at": (LITE_RECORD, "!self->tables.is_open || now.schema != self->seen.schema;", "!self->tables.is_open;", "Replaced"),
+    "SQLite: a statement without tables doesn't look at the file": (LITE_RECORD, "if (transaction == 0) ask_number", "if (0) ask_number", "Replaced"),
+    "SQLite: a statement without tables begins a transaction": (LITE_RECORD, "    if (sqlite3_get_autocommit(self->db)) {\n        sqlite3_int64 told;", "    {\n        sqlite3_int64 told;", "Looks"),
+    "SQLite: another's commit is not looked at": (LITE_RECORD, "!self->may_be_undone && now.data == self->seen.data && now", "!self->may_be_undone && now"),
+    "SQLite: what isn't committed stays in use": (LITE_RECORD, "may_be_undone || dirty != 0", "may_be_undone", "Replaced"),
+    "SQLite: a record that is taken back stays in use": (LITE_RECORD, "return is_new && now->data", "return 0 && is_new && now->data", "Replaced"),
+    "SQLite: a record and opened tables needn't fit": (LITE_RECORD, "fits_own(call, self, &fresh) && use", "(fits_own(call, self, &fresh) || 1) && use", "Opened"),
+    "SQLite: a record has to extend opened tables": (LITE_RECORD, "npss_extends(recorded, &self->own).status == NPSS_DONE", "0", "Opened"),
+    "SQLite: a first raise that is rolled back stays in use": (LITE_RECORD, "if (found < 0 && !use_own(call, self)) return 0;", "if (found < -1 && !use_own(call, self)) return 0;"),
+    "SQLite: opened tables are forgotten too early": (LITE_RECORD, "!self->may_be_undone && sqlite3_get_autocommit(self->db)) npss_close", "1) npss_close", "Opened"),
     "SQLite: a lock is taken for no record": (LITE_RECORD, "if (code == SQLITE_ERROR) return -1;", "if (code != SQLITE_OK) return -1;"),
-    "SQLite: a file that is too big is left out": (LITE_RECORD, "held->data_length, SQLITE_STATIC) == SQLITE_OK", "held->data_length, SQLITE_STATIC) >= 0"),
-    "SQLite: a full disk is not told": (LITE_RECORD, "sqlite3_step(put) == SQLITE_DONE", "sqlite3_step(put) > 0"),
-    "SQLite: the record is open to all": (LITE_RECORD, "BEFORE UPDATE ON npss_record WHEN NOT", "BEFORE UPDATE ON npss_record WHEN"),
-    "SQLite: an audit looks at what is in use": (LITE_RECORD, "opened(call, &fresh, &held) && follows(call)", "opened(call, &fresh, &held) && ready(call, self)"),
-    "SQLite: audited tables stay open": (LITE_RECORD, "            else fail_memory(call);\n        }\n    }\n    npss_close(&fresh);", "            else fail_memory(call);\n        }\n    }", "Memory"),
-    "SQLite: a connection doesn't follow": (LITE, "if (renewed) a = how->make", "if (0) a = how->make"),
-    "SQLite: a record's fault is not told": (LITE, "if (renewed < 0) return;", ""),
-    "SQLite: questions don't follow": (LITE, "status != NPSS_UNASSIGNED || renew(call, self) >= 0", "status != NPSS_MEMORY"),
+    "SQLite: the record of any database": (LITE_RECORD, "\"SELECT assigned FROM main.npss_record\"", "\"SELECT assigned FROM npss_record\""),
+    "SQLite: the files of any database": (LITE_RECORD, "\"SELECT data, exclusions FROM main.npss_record\"", "\"SELECT data, exclusions FROM npss_record\""),
+    # SQLite: attached databases
+    "SQLite: attached databases are written under another version": (LITE_ATTACHED, "        if (!fits(call, self, name)) return 0;\n", "        if (!fits(call, self, name) && 0) return 0;\n", "Attached"),
+    "SQLite: attached files of the same counts fit": (LITE_ATTACHED, "a.data = b.data AND a.exclusions = b.exclusions", "length(a.data) = length(b.data)", "Attached"),
+    "SQLite: an attached database fits for ever": (LITE_RECORD, "    forget_attached(self);\n", "", "Attached"),
+    "SQLite: an attached database that is read has to fit": (LITE_ATTACHED, "== SQLITE_TXN_WRITE) return name", ">= SQLITE_TXN_READ) return name", "Attached"),
+    # SQLite: files
+    "SQLite: a pipe is waited for": (LITE_FILES, "O_RDONLY | O_NONBLOCK", "O_RDONLY", "Files"),
+    "SQLite: a device is read": (LITE_FILES, "|| !S_ISREG(about.st_mode)", "", "Files"),
+    "SQLite: a file is left open": (LITE_FILES, "    close(file);\n", "", "Files"),
+    "SQLite: a file of the greatest size is too large": (LITE_FILES, "MOST_OF_A_FILE + 1 - *length", "MOST_OF_A_FILE - 1 - *length", "Files"),
+    "SQLite: the exclusions may be a text": (LITE_FILES, "sqlite3_value_type(given[0]) != SQLITE_BLOB || sqlite3_value_type(given[1]) != SQLITE_BLOB", "sqlite3_value_type(given[0]) != SQLITE_BLOB", "Files"),
+    # SQLite: keys
+    "SQLite: the room is told one byte too large": (LITE, "text, length, self->room, ROOM);", "text, length, self->room, ROOM + 1);", "Memory"),
+    "SQLite: a large room is one byte short": (LITE, "sqlite3_malloc64(size);", "sqlite3_malloc64(size - 1);", "Memory"),
     "SQLite: an index stands on npss_normalize": (LITE, "{\"npss_normalize\", 2, ASK,", "{\"npss_normalize\", 2, KEY,", "Indexes"),
     "SQLite: a key is not innocuous": (LITE, "KEY = SQLITE_UTF8 | SQLITE_DETERMINISTIC | SQLITE_INNOCUOUS", "KEY = SQLITE_UTF8 | SQLITE_DETERMINISTIC", "Indexes"),
     "SQLite: a schema raises": (LITE, "DIRECT = SQLITE_UTF8 | SQLITE_DIRECTONLY", "DIRECT = SQLITE_UTF8", "Indexes"),
-    "SQLite: a key ends at U+0000": (LITE, "(char *)small, a.length, SQLITE_TRANSIENT", "(char *)small, memchr(small, 0, a.length) ? 1 : a.length, SQLITE_TRANSIENT", "Functions"),
+    "SQLite: a key ends at U+0000": (LITE, "(char *)self->room, a.length, SQLITE_TRANSIENT", "(char *)self->room, memchr(self->room, 0, a.length) ? 1 : a.length, SQLITE_TRANSIENT", "Functions"),
+    "SQLite: a text is taken as it stands": (LITE, "(*length = (size_t)sqlite3_value_bytes(value)) > 0", "(text = sqlite3_value_blob(value)) && (*length = (size_t)sqlite3_value_bytes(value)) > 0", "Functions"),
     "SQLite: a long key is not freed": (LITE, "room, a.length, sqlite3_free, SQLITE_UTF8", "room, a.length, SQLITE_TRANSIENT, SQLITE_UTF8", "Memory"),
-    "SQLite: a connection's tables are not closed": (LITE, "    npss_close(&self->tables);\n    sqlite3_free(self);", "    sqlite3_free(self);", "Memory"),
+    "SQLite: a connection's tables are not closed": (LITE, "    npss_close(&self->tables);\n", "", "Memory"),
+    "SQLite: why it can't be loaded is not told": (LITE, "if (code != SQLITE_OK && error)", "if (0 && error)"),
 }
 
 
