@@ -19,7 +19,8 @@ class Bounds(Case):
         self.server.sql("CREATE TABLE long (body text); ALTER TABLE long ALTER body SET STORAGE EXTERNAL;"
                         f"INSERT INTO long VALUES (repeat('{MARKED}', 36000000))", base)
         session = self.session(base)
-        for call in ("npss_nfc(body)", "npss_normalize(body)", "npss_is_normalized(body)", "npss_equivalent(body, body)"):
+        for call in ("npss_nfc(body)", "npss_normalize(body)", "npss_is_normalized(body)", "npss_equivalent(body, body)", "npss_equivalent('a', body)",
+                     "npss_equivalent(body, 'a')"):
             self.ends_early(session, f"SELECT {call} IS NULL FROM long")
 
     def ends_early(self, session, text, before=None):
@@ -127,6 +128,8 @@ class Memory(Case):
                       "SELECT npss_raise('15.0')", "SELECT npss_raise('13.0')", "SELECT npss_raise('none')", f"SELECT npss_nfc('{YOUNG}')",
                       "SELECT length(npss_nfd(repeat('\u1ead', 400000)))", "SELECT npss_ready('14.0'), npss_ready('none')",
                       "CREATE CAST (bytea AS text) WITHOUT FUNCTION"]
+        # Results around the room, and of each remainder of 8 above it, since memory is handed out in eights.
+        statements += [f"SELECT length(npss_nfc(repeat('x', {length - 2}) || '\u00eb'))" for length in (*range(65_534, 65_550), 100_000)]
         # Streams that end at an error, and versions that end with a call.
         statements += ["SELECT npss_normalize(decode(repeat('61', 1500000) || 'ff', 'hex')::text)", "SELECT npss_audit('14.0')"] * 4
         told = self.folder / "valgrind"
@@ -141,5 +144,6 @@ class Memory(Case):
             self.server.start()
         self.assertEqual(ran.returncode, 0, ran.stdout[-2000:])
         self.assertIn("\u1ead", ran.stdout)
+        self.assertIn('length = "65548"', ran.stdout)
         errors = re.split(r"\n==\d+== \n", (told / "log").read_text())
         self.assertEqual([error for error in errors if "npss" in error], [])

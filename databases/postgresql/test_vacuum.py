@@ -2,7 +2,7 @@
 
 import time
 
-from cases import MARKED, Case
+from cases import MARKED, YOUNGEST, Case
 
 # Autovacuum comes for any change of a table.
 EAGER = "autovacuum_vacuum_insert_threshold = 1, autovacuum_vacuum_insert_scale_factor = 0, autovacuum_analyze_threshold = 1, autovacuum_analyze_scale_factor = 0"
@@ -128,3 +128,22 @@ class Vacuums(Case):
         self.hide()
         self.have_autovacuum()
         self.until(self.counted(base, "autoanalyze_count"), "an autoanalyze")
+
+    def test_analyze_on_a_server_that_lags(self):
+        base = self.base("lagging", "14.0")
+        self.server.sql(f"CREATE TABLE account (name text) WITH ({EAGER}); CREATE INDEX account_key ON account (npss_nfc(name)); SELECT npss_raise('15.0');"
+                        f"INSERT INTO account SELECT name || n FROM (VALUES ('{MARKED}'), ('{YOUNGEST}')) AS of (name), generate_series(1, 1000) n", base)
+        self.hide("15.0")
+        for text in ("ANALYZE account", "VACUUM ANALYZE account"):
+            self.server.sql(text, base)
+            told = self.server.told
+            self.assertEqual(told.count('ANALYZE leaves out names that are new in Unicode version "15.0"'), 1, told)
+            self.assertLess(told.count("WARNING"), 5, told)
+        # What isn't ANALYZE is refused all the same.
+        self.refused("22021", "REINDEX TABLE account", base)
+        self.server.sql("DELETE FROM account WHERE ctid IN (SELECT ctid FROM account LIMIT 10)", base)
+        self.have_autovacuum()
+        self.until(self.counted(base, "autoanalyze_count"), "an autoanalyze")
+        self.come_back()
+        self.server.sql("REINDEX TABLE account; ANALYZE account", base)
+        self.assertNotIn("WARNING", self.server.told)
