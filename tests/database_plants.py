@@ -149,6 +149,7 @@ PLANTS = {
     "SQLite: behind a raise's transaction each key looks at the record": (LITE_RECORD, "self->may_be_undone && now->pager == self->seen.pager", "self->may_be_undone", "Looks"),
     "SQLite: a replaced database keeps its tables": (LITE_RECORD, "return data_version(self->db, NULL) == self->seen.pager;", "return 1;", "Replaced"),
     "SQLite: a schema that changed is not looked at": (LITE_RECORD, "!self->tables.is_open || now.schema != self->seen.schema;", "!self->tables.is_open;", "Replaced"),
+    "SQLite: where no PRAGMA may be asked nothing is looked at": (LITE_RECORD, "now.schema == UNTOLD || ", "", "Replaced"),
     "SQLite: a statement without tables doesn't look at the file": (LITE_RECORD, "if (transaction == 0) ask_number", "if (0) ask_number", "Replaced"),
     "SQLite: a statement without tables begins a transaction": (LITE_RECORD, "    if (sqlite3_get_autocommit(self->db)) {\n        sqlite3_int64 told;", "    {\n        sqlite3_int64 told;", "Looks"),
     "SQLite: another's commit is not looked at": (LITE_RECORD, "!self->may_be_undone && now.data == self->seen.data && now", "!self->may_be_undone && now"),
@@ -166,6 +167,8 @@ PLANTS = {
     "SQLite: attached files of the same counts fit": (LITE_ATTACHED, "a.data = b.data AND a.exclusions = b.exclusions", "length(a.data) = length(b.data)", "Attached"),
     "SQLite: an attached database fits for ever": (LITE_RECORD, "    forget_attached(self);\n", "", "Attached"),
     "SQLite: an attached database that is read has to fit": (LITE_ATTACHED, "== SQLITE_TXN_WRITE) return name", ">= SQLITE_TXN_READ) return name", "Attached"),
+    "SQLite: an attached database in memory fits for ever": (LITE_ATTACHED, "if (mark == name) return 0;", "if (0) return 0;", "Attached"),
+    "SQLite: each write of an attached database compares it": (LITE_ATTACHED, "        slot->data_version = now;\n", "        return 0;\n", "Attached"),
     # SQLite: files
     "SQLite: a pipe is waited for": (LITE_FILES, "O_RDONLY | O_NONBLOCK", "O_RDONLY", "Files"),
     "SQLite: a device is read": (LITE_FILES, "|| !S_ISREG(about.st_mode)", "", "Files"),

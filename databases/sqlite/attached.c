@@ -43,25 +43,47 @@ static int fits(sqlite3_context *call, connection *self, const char *name) {
                                       "its keys: write it through a connection of its own", name));
 }
 
-/* Remembers that an attached database fits as it is; not where it has no file, by which it is known again. */
-static void remember(connection *self, const char *name, int number) {
-    const char *file = sqlite3_db_filename(self->db, name);
-    fitting *slot = &self->attached[number];
-    sqlite3_free(slot->file);
-    slot->file = file && *file ? sqlite3_mprintf("%s", file) : NULL;
-    slot->data_version = data_version(self->db, name);
+/* By what an attached database is known again: its file. One in memory is known by its name, and only within a transaction,
+ * which nobody detaches it from. NULL where it isn't known again. */
+static const char *mark_of(sqlite3 *db, const char *name) {
+    const char *file = sqlite3_db_filename(db, name);
+    if (file && *file) return file;
+    return sqlite3_get_autocommit(db) ? NULL : name;
 }
 
+/* Remembers that an attached database fits as it is. */
+static void remember(connection *self, const char *name, int number) {
+    const char *mark = mark_of(self->db, name);
+    fitting *slot = &self->attached[number];
+    sqlite3_free(slot->mark);
+    slot->mark = mark ? sqlite3_mprintf("%s", mark) : NULL;
+    slot->data_version = data_version(self->db, name);
+    slot->others = slot->schema = -1;
+    ask_attached(self->db, "PRAGMA \"%w\".data_version", name, &slot->others);
+    ask_attached(self->db, "PRAGMA \"%w\".schema_version", name, &slot->schema);
+}
+
+/* Whether an attached database that was found to fit is as it was, or was written by this connection alone. */
 static int is_remembered(connection *self, const char *name, int number) {
-    const char *file = sqlite3_db_filename(self->db, name);
-    const fitting *slot = &self->attached[number];
-    return slot->file && file && !strcmp(slot->file, file) && slot->data_version == data_version(self->db, name);
+    const char *mark = mark_of(self->db, name);
+    fitting *slot = &self->attached[number];
+    sqlite3_int64 others = -2, schema = -2;
+    unsigned now = data_version(self->db, name);
+    if (!slot->mark || !mark || strcmp(slot->mark, mark)) return 0;
+    if (now != slot->data_version) {
+        if (mark == name) return 0; /* another one of that name may be in its place */
+        ask_attached(self->db, "PRAGMA \"%w\".data_version", name, &others);
+        ask_attached(self->db, "PRAGMA \"%w\".schema_version", name, &schema);
+        if (others != slot->others || schema != slot->schema) return 0;
+        slot->data_version = now;
+    }
+    return 1;
 }
 
 void forget_attached(connection *self) {
     for (int number = 0; number < MOST_ATTACHED; number++) {
-        sqlite3_free(self->attached[number].file);
-        self->attached[number].file = NULL;
+        sqlite3_free(self->attached[number].mark);
+        self->attached[number].mark = NULL;
     }
 }
 

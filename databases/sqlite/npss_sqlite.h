@@ -14,10 +14,11 @@ typedef struct state {
     int transaction;      /* SQLITE_TXN_NONE, _READ or _WRITE */
 } state;
 
-/* An attached database that was found to fit the main one, and its data version then. */
+/* An attached database that was found to fit the main one, and its numbers then, as those of `state`. */
 typedef struct fitting {
-    char *file; /* of sqlite3_mprintf; NULL where none was looked at */
+    char *mark; /* by what it is known again, of sqlite3_mprintf; NULL where none was looked at */
     unsigned data_version;
+    sqlite3_int64 others, schema;
 } fitting;
 
 /* How many databases of a connection are remembered, by their numbers: main, temp, and as many as SQLite attaches by itself. */

@@ -49,9 +49,12 @@ static int is_as_seen(connection *self) {
     return data_version(self->db, NULL) == self->seen.pager;
 }
 
-/* The main database as it is now. A number that isn't told is -1. */
+/* What stands for a number that isn't told, as where an authorizer lets no PRAGMA pass. */
+#define UNTOLD INT64_MIN
+
+/* The main database as it is now. */
 static state state_now(sqlite3 *db) {
-    state now = {0, -1, -1, 0};
+    state now = {0, UNTOLD, UNTOLD, 0};
     ask_number(db, "PRAGMA main.data_version", &now.data);
     ask_number(db, "PRAGMA main.schema_version", &now.schema);
     now.pager = data_version(db, NULL);
@@ -156,7 +159,7 @@ static int may_undo(connection *self, const state *now, int is_new) {
 static int look(sqlite3_context *call, connection *self) {
     state now = state_now(self->db);
     sqlite3_int64 assigned = self->is_recorded ? self->assigned : 0;
-    int found = 1, is_new = !self->tables.is_open || now.schema != self->seen.schema;
+    int found = 1, is_new = !self->tables.is_open || now.schema == UNTOLD || now.schema != self->seen.schema;
     int is_sure = !self->may_be_undone && now.data == self->seen.data && now.transaction >= self->seen.transaction;
     if (!is_new && is_sure) {
         self->seen = now; /* the connection's own commits, none of which wrote the record */

@@ -72,6 +72,13 @@ class Replaced(Case):
         subprocess.run(["sqlite3", self.path, f".restore {self.path}.other"], check=True)
         self.refused("not assigned", base, "INSERT INTO account VALUES (?)", YOUNGEST)
 
+    def test_where_no_pragma_may_be_asked(self):
+        base = self.with_names(NEW)
+        base.set_authorizer(lambda action, *_: sqlite3.SQLITE_DENY if action == sqlite3.SQLITE_PRAGMA else sqlite3.SQLITE_OK)
+        base.execute("INSERT INTO account VALUES (?)", (MARKED,))
+        self.other(OLD).backup(base)
+        self.refused("not assigned", base, "INSERT INTO account VALUES (?)", YOUNGEST)
+
     def test_by_one_without_a_record(self):
         base = self.with_names(NEW)
         self.asked(base, "npss_nfc(?)", MARKED)
@@ -215,6 +222,38 @@ class Attached(Case):
             base.execute("INSERT INTO other.account VALUES (?)", (f"{MARKED}{at}",))
         base.execute("COMMIT")
         self.assertEqual(base.execute("PRAGMA other.integrity_check").fetchall(), [("ok",)])
+
+    def test_in_memory(self):
+        base = self.with_names(NEW)
+        for version, told in ((NEW, True), (OLD, False), (NEW, True)):
+            base.execute("ATTACH ':memory:' AS other")
+            base.execute("CREATE TABLE other.npss_record (one INTEGER, assigned INTEGER, data BLOB, exclusions BLOB)")
+            base.execute("INSERT INTO other.npss_record VALUES (1, 0, ?, ?)", [Path(version, name).read_bytes() for name in FILES])
+            base.execute("CREATE TABLE other.account (name TEXT)")
+            base.execute("CREATE INDEX other.account_key ON account (npss_nfc(name))")
+            for begins in ("SELECT 1", "BEGIN"):
+                base.execute(begins)
+                for name in (MARKED, MARKED + "a"):
+                    if told:
+                        base.execute("INSERT INTO other.account VALUES (?)", (name,))
+                    else:
+                        self.refused("records another version", base, "INSERT INTO other.account VALUES (?)", name)
+            base.execute("COMMIT")
+            base.execute("DETACH other")
+
+    def test_is_compared_once(self):
+        base, told = self.attached(NEW), []
+        base.set_trace_callback(told.append)
+        for at in range(20):
+            base.execute("INSERT INTO other.account VALUES (?)", (f"{MARKED}{at}",))
+        base.set_trace_callback(None)
+        self.assertEqual(sum("a.data = b.data" in text for text in told), 1)
+        # What another connection does to it is looked at.
+        beside = self.connect(self.beside)
+        for name in ("insert", "update", "delete"):
+            beside.execute(f"DROP TRIGGER npss_record_{name}")
+        beside.execute("UPDATE npss_record SET data = x'00'")
+        self.refused("records another version", base, "INSERT INTO other.account VALUES ('\u00eb')")
 
     def test_that_is_left_behind_by_a_raise(self):
         base = self.attached(OLD, OLD)
