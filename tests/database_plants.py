@@ -148,7 +148,7 @@ PLANTS = {
     "SQLite: behind a raise each key looks at the record": (LITE_RECORD, "settle(self, &now, !sqlite3_get_autocommit(self->db));", "settle(self, &now, 1);", "Looks"),
     "SQLite: behind a raise's transaction each key looks at the record": (LITE_RECORD, "self->may_be_undone && now->pager == self->seen.pager", "self->may_be_undone", "Looks"),
     "SQLite: a replaced database keeps its tables": (LITE_RECORD, "return data_version(self->db, NULL) == self->seen.pager;", "return 1;", "Replaced"),
-    "SQLite: a schema that changed is not looked at": (LITE_RECORD, "!self->tables.is_open || now.schema != self->seen.schema;", "!self->tables.is_open;", "Replaced"),
+    "SQLite: a schema that changed is not looked at": (LITE_RECORD, " || now.schema != self->seen.schema;", ";", "Replaced"),
     "SQLite: where no PRAGMA may be asked nothing is looked at": (LITE_RECORD, "now.schema == UNTOLD || ", "", "Replaced"),
     "SQLite: a statement without tables doesn't look at the file": (LITE_RECORD, "if (transaction == 0) ask_number", "if (0) ask_number", "Replaced"),
     "SQLite: a statement without tables begins a transaction": (LITE_RECORD, "    if (sqlite3_get_autocommit(self->db)) {\n        sqlite3_int64 told;", "    {\n        sqlite3_int64 told;", "Looks"),
