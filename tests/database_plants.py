@@ -135,7 +135,7 @@ PLANTS = {
     "SQLite: a raise waits for nobody by itself": (LITE_RAISE, "== SQLITE_ROW && timeout == 0 ? PATIENCE : 0", "== SQLITE_ROW && timeout == 0 ? 0 : 0", "Waits"),
     "SQLite: a raise waits within a transaction": (LITE_RAISE, "return sqlite3_get_autocommit(db) && ask_number", "return ask_number", "Waits"),
     "SQLite: a raise never gives up": (LITE_RAISE, "waited += STEP", "waited += 0", "Waits"),
-    "SQLite: a commit waits for no reader": (LITE_RAISE, "run(db, \"RELEASE npss_raise\", patience)", "run(db, \"RELEASE npss_raise\", 0 * patience)", "Waits"),
+    "SQLite: a commit waits for no reader": (LITE_RAISE, "\"RELEASE npss_raise\", patience)", "\"RELEASE npss_raise\", 0)", "Waits"),
     "SQLite: a file that is too big is left out": (LITE_RAISE, "held->data_length, SQLITE_STATIC) == SQLITE_OK", "held->data_length, SQLITE_STATIC) >= 0"),
     "SQLite: a full disk is not told": (LITE_RAISE, "sqlite3_step(put) != SQLITE_DONE", "sqlite3_step(put) < 0"),
     "SQLite: the record is open to all": (LITE_RAISE, "BEFORE UPDATE ON npss_record WHEN NOT", "BEFORE UPDATE ON npss_record WHEN"),

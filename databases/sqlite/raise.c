@@ -114,6 +114,11 @@ static int run(sqlite3 *db, const char *text, int patience) {
     return code & 0xFF;
 }
 
+/* The same; 0 where an error is set. */
+static int did(sqlite3_context *call, sqlite3 *db, const char *text, int patience) {
+    return run(db, text, patience) == SQLITE_OK || fail_by_database(call);
+}
+
 /* Records a version within a savepoint. The update that changes nothing comes first: it waits for other writers, and keeps
  * them away until the record is written. Where there is no record yet, it fails, and the table is made. */
 static int raise_within(sqlite3_context *call, connection *self, npss_handle *fresh, const files *held, int patience) {
@@ -128,10 +133,6 @@ static int raise_within(sqlite3_context *call, connection *self, npss_handle *fr
     return write_record(call, self, recorded > 0 ? update_text : insert_text, (sqlite3_int64)npss_count(fresh).length, held);
 }
 
-static int released(sqlite3_context *call, sqlite3 *db, int patience) {
-    return run(db, "RELEASE npss_raise", patience) == SQLITE_OK || fail_by_database(call);
-}
-
 /* npss_raise(FOLDER): records the files of a folder as the version of this database, if they keep all keys. */
 void do_raise(sqlite3_context *call, int count, sqlite3_value **given) {
     connection *self = connection_of(call);
@@ -139,14 +140,12 @@ void do_raise(sqlite3_context *call, int count, sqlite3_value **given) {
     int is_whole = sqlite3_get_autocommit(self->db); /* the savepoint is a transaction of its own, whose release commits */
     int patience = patience_of(self->db);
     files held;
-    if (!files_of(call, count, given, &held) || !opened(call, &fresh, &held)) {
-        /* the error is set */
-    } else if (run(self->db, "SAVEPOINT npss_raise", 0) != SQLITE_OK) {
-        fail_by_database(call);
-    } else if (raise_within(call, self, &fresh, &held, patience) && released(call, self->db, patience)) {
-        if (use_raised(call, self, &fresh)) sqlite3_result_int64(call, self->assigned);
-    } else {
-        run(self->db, is_whole ? "ROLLBACK" : "ROLLBACK TO npss_raise; RELEASE npss_raise", 0);
+    if (files_of(call, count, given, &held) && opened(call, &fresh, &held) && did(call, self->db, "SAVEPOINT npss_raise", 0)) {
+        if (raise_within(call, self, &fresh, &held, patience) && did(call, self->db, "RELEASE npss_raise", patience)) {
+            if (use_raised(call, self, &fresh)) sqlite3_result_int64(call, self->assigned);
+        } else {
+            run(self->db, is_whole ? "ROLLBACK" : "ROLLBACK TO npss_raise; RELEASE npss_raise", 0);
+        }
     }
     npss_close(&fresh);
     free_files(&held);
