@@ -151,6 +151,7 @@ PLANTS = {
     "SQLite: a replaced database keeps its tables": (LITE_RECORD, "return data_version(self->db, NULL) == self->seen.pager;", "return 1;", "Replaced"),
     "SQLite: a schema that changed is not looked at": (LITE_RECORD, " || now.schema != self->seen.schema;", ";", "Replaced"),
     "SQLite: where no PRAGMA may be asked nothing is looked at": (LITE_RECORD, "now.schema == UNTOLD || ", "", "Replaced"),
+    "SQLite: a statement that goes on keeps tables that were taken back": (LITE_RECORD, "sqlite3_get_auxdata(call, SEEN_TO) == (void *)self->number) return 1;", "sqlite3_get_auxdata(call, SEEN_TO)) return 1;", "Replaced"),
     "SQLite: a statement without tables doesn't look at the file": (LITE_RECORD, "if (transaction == 0) ask_number", "if (0) ask_number", "Replaced"),
     "SQLite: a statement without tables begins a transaction": (LITE_RECORD, "    if (sqlite3_get_autocommit(self->db)) {\n        sqlite3_int64 told;", "    {\n        sqlite3_int64 told;", "Looks"),
     "SQLite: another's commit is not looked at": (LITE_RECORD, "!self->may_be_undone && now.data == self->seen.data && now", "!self->may_be_undone && now"),

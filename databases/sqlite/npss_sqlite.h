@@ -33,8 +33,9 @@ typedef struct connection {
     int users;              /* the functions that point here */
     npss_handle tables;     /* in use; closed until they are wanted */
     npss_handle own;        /* those of npss_open, until the database has a record that stays */
-    sqlite3_int64 assigned; /* how many code points the tables in use assign */
-    int is_recorded;        /* the tables in use are those of npss_record, and not of npss_open */
+    uintptr_t number;       /* of the tables in use, another one each time that others come */
+    sqlite3_int64 assigned; /* how many code points they assign */
+    int is_recorded;        /* they are those of npss_record, and not of npss_open */
     int may_be_undone;      /* a rollback may take the record back that is in use: each call looks at it */
     state seen;             /* the main database, when the record was looked at */
     fitting attached[MOST_ATTACHED];

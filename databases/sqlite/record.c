@@ -5,7 +5,7 @@
 
 SQLITE_EXTENSION_INIT3
 
-/* What a statement keeps that was seen to: `npss`, as a number that is no argument's. */
+/* Where a statement keeps the number of the tables that were seen to: `npss`, as a number that is no argument's. */
 #define SEEN_TO (-0x6E707373)
 
 /* ---- the state of a database */
@@ -69,6 +69,7 @@ int use(sqlite3_context *call, connection *self, npss_handle *tables, int is_rec
     npss_answer a = npss_share(tables, &self->tables);
     self->assigned = (sqlite3_int64)npss_count(tables).length;
     self->is_recorded = is_recorded;
+    self->number++;
     forget_attached(self);
     return a.status == NPSS_DONE ? 1 : refuse(call, a);
 }
@@ -185,13 +186,13 @@ static int is_ready(sqlite3_context *call, connection *self, int *ended) {
 }
 
 /* Sees to it that the tables in use are those of the record as this transaction sees it; 0 where an error is set. Where the
- * statement is a transaction of its own, SQLite keeps for it that this was seen to. (A negative number is for the whole
+ * statement is a transaction of its own, SQLite keeps for it the number of the tables. (A negative number is for the whole
  * statement. Where SQLite doesn't keep it, each call sees to it.) */
 int ready(sqlite3_context *call, connection *self) {
     int is_alone = sqlite3_get_autocommit(self->db), ended = 0;
-    if (is_alone && self->tables.is_open && sqlite3_get_auxdata(call, SEEN_TO) == self) return 1;
+    if (is_alone && self->tables.is_open && sqlite3_get_auxdata(call, SEEN_TO) == (void *)self->number) return 1;
     if (!is_ready(call, self, &ended) && (ended || !look(call, self))) return 0;
     if (!fits_attached(call, self)) return 0;
-    if (is_alone && !self->may_be_undone) sqlite3_set_auxdata(call, SEEN_TO, self, NULL);
+    if (is_alone && !self->may_be_undone) sqlite3_set_auxdata(call, SEEN_TO, (void *)self->number, NULL);
     return 1;
 }

@@ -108,6 +108,19 @@ class Replaced(Case):
         base.execute("ROLLBACK")
         self.refused("not assigned", fresh, "INSERT INTO account (name) VALUES (?)", YOUNGEST)
 
+    def test_by_a_rollback_beside_a_statement_that_goes_on(self):
+        base = self.with_names(OLD)
+        base.execute("INSERT INTO account VALUES ('a'), ('b'), ('c'), ('d'), ('e'), ('f')")
+        running = base.execute("SELECT npss_try_key(?) FROM account", (YOUNGEST,))
+        told = [running.fetchone()]
+        base.execute("BEGIN")
+        base.execute("SELECT npss_raise(?)", (NEW,))
+        told += [running.fetchone(), running.fetchone()]
+        base.execute("ROLLBACK")
+        told += running.fetchall()
+        # Python is up to a row ahead of what it hands over.
+        self.assertEqual((told[0], told[-2:], (YOUNGEST,) in told), ((None,), [(None,), (None,)], True), told)
+
     def test_by_a_rollback_of_another_statements_record(self):
         # A dump that is taken back: no trigger keeps its record from being written yet.
         base = self.connect()
