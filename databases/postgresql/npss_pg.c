@@ -39,7 +39,7 @@ define_settings(void)
 
 /*
  * The value of a setting that is not defined yet, so that PostgreSQL keeps whatever anybody sets.  It counts where it comes from
- * a file, a database or a role, or where the session is a superuser's; else what it was before counts, if that does.
+ * a file, a database or a role, or where the session is a superuser's; else it is as good as not set.
  */
 static const char *
 placeholder(const char *name)
@@ -58,11 +58,8 @@ placeholder(const char *name)
 	{
 		struct config_string *found = (struct config_string *) all[i];
 
-		if (all[i]->vartype != PGC_STRING || strcmp(all[i]->name, name) != 0)
-			continue;
-		if (is_superuser || all[i]->source < PGC_S_CLIENT)
-			return *found->variable;
-		return all[i]->reset_source < PGC_S_CLIENT ? found->reset_val : NULL;
+		if (all[i]->vartype == PGC_STRING && strcmp(all[i]->name, name) == 0)
+			return is_superuser || all[i]->source < PGC_S_CLIENT ? *found->variable : NULL;
 	}
 	return NULL;
 }

@@ -79,6 +79,8 @@ class Rights(Case):
             except SqlError as error:
                 self.assertIn(error.state, ("42501", "55000"), error)
                 self.assertNotIn(str(self.folder), str(error))
+        # Where no worker comes to help, what the server's file says counts.
+        self.server.sql(f"\\c - joe\nSET npss.folder = '{evil}'; SET max_parallel_workers = 0;{build}", base)
         self.assertNotIn("faulty", (self.server.folder / "log").read_text())
         # What the server's own file says holds, and a superuser's word does.
         self.server.sql(f"\\c - joe\n{build}", base)
