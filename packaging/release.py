@@ -1,13 +1,18 @@
 #!/usr/bin/env python3
 """The release that this tree is, by CHANGELOG.md and git: its version, its commit, its time.
 
-    packaging/release.py            prints the version, and each place that tells another one
-    packaging/release.py --write    puts these places right
+    packaging/release.py            prints the version, each place that tells another one, and what is wrong with the scripts of SQL
+    packaging/release.py --write    puts these places right, and lists the scripts of SQL as released
     packaging/release.py --told     prints how PROVED begins: the version and the commit
 
-The status is 1 where a place tells another version and isn't put right.
+The extension for PostgreSQL has a version of its own for its SQL, in npss.control, which changes with the SQL alone. A script
+that a release had stays as it was: databases/postgresql/released has its sum. What changes comes in a script of the next
+version, npss--A--B.sql.
+
+The status is 1 where a place tells another version and isn't put right, or where a script is wrong.
 """
 
+import hashlib
 import os
 import re
 import subprocess
@@ -22,8 +27,10 @@ PLACES = {
     "bindings/python/src/npss/__init__.py": (r'^__version__ = "', 3),
     "bindings/rust/Cargo.toml": (r'\A\[package\]\nname = "npss"\nversion = "', 3),
     "bindings/rust/Cargo.lock": (r'^name = "npss"\nversion = "', 3),
-    "databases/postgresql/npss.control": (r"^default_version = '", 2),
 }
+# The scripts of the extension for PostgreSQL, and the list of those that a release had.
+SQL = ROOT / "databases" / "postgresql"
+RELEASED = SQL / "released"
 # What the program and the library are made of.
 PROVED_SOURCES = ("crates", "crates.txt", "include", "build-c")
 
@@ -88,6 +95,45 @@ def differing(version, write=False):
     return told
 
 
+def sum_of(name):
+    """The SHA-256 of a script, or nothing where there is none of that name."""
+    path = SQL / name
+    return hashlib.sha256(path.read_bytes()).hexdigest() if path.exists() else ""
+
+
+def released_sums():
+    """The SHA-256 of each script that a release had, by its name."""
+    return {name: wanted for wanted, name in (line.split() for line in RELEASED.read_text(encoding="utf-8").splitlines())}
+
+
+def versions_that_reach(version, scripts):
+    """The versions of the SQL from which scripts npss--A--B.sql lead to this one, and itself."""
+    found, more = set(), {version}
+    while more:
+        found |= more
+        more = {words[1] for words in scripts if len(words) == 3 and words[2] in found} - found
+    return found
+
+
+def sql_faults():
+    """What is wrong with the scripts of SQL, a line each: a released one was changed, or one leads nowhere."""
+    told = [f"{name} isn't as it was released: put what changes into npss--A--B.sql" for name, wanted in released_sums().items() if sum_of(name) != wanted]
+    found = re.search(r"^default_version = '([^']+)'$", (SQL / "npss.control").read_text(encoding="utf-8"), re.MULTILINE)
+    version = found[1] if found else ""
+    scripts = [path.stem.split("--") for path in SQL.glob("npss--*.sql")]
+    reach = versions_that_reach(version, scripts)
+    if not any(words[1] in reach for words in scripts if len(words) == 2):
+        told.append(f"npss.control: no script makes version {version}")
+    return told + [f"no script leads from version {one} to {version}" for one in sorted({word for words in scripts for word in words[1:]} - reach)]
+
+
+def list_scripts():
+    """Lists each script of SQL as released that isn't yet."""
+    kept = released_sums()
+    fresh = {path.name: sum_of(path.name) for path in sorted(SQL.glob("npss--*.sql")) if path.name not in kept}
+    RELEASED.write_text("".join(f"{made}  {name}\n" for name, made in {**kept, **fresh}.items()), encoding="utf-8")
+
+
 def main():
     write = sys.argv[1:] == ["--write"]
     version, _ = newest()
@@ -98,7 +144,12 @@ def main():
     told = differing(version, write)
     for name in told:
         print(f"{'written' if write else 'tells another version'}: {name}")
-    return 1 if told and not write else 0
+    faults = sql_faults()
+    for fault in faults:
+        print(f"wrong: {fault}")
+    if write and not faults:
+        list_scripts()
+    return 1 if faults or (told and not write) else 0
 
 
 if __name__ == "__main__":

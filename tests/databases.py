@@ -78,6 +78,35 @@ def check_sqlite(tally, prefix, versions, room):
         counted(tally, "keys in SQLite", [python, SQLITE / "test_sqlite.py", room / "npss.so", versions])
 
 
+def run_release(copy, *words):
+    """The status of packaging/release.py in a copy of the tree, and what it wrote."""
+    ran = subprocess.run([sys.executable, copy / "packaging" / "release.py", *words], stdout=subprocess.PIPE, stderr=subprocess.STDOUT, text=True, check=False)
+    return ran.returncode, ran.stdout
+
+
+def check_release(tally, room):
+    """A release by the recipe of CONTRIBUTING.md leaves the SQL of the extension as it is, and keeps it from then on."""
+    copy, names = room / "release", ["CHANGELOG.md", "packaging/release.py", "bindings/python/src/npss/__init__.py", "bindings/rust/Cargo.toml", "bindings/rust/Cargo.lock"]
+    for name in [*names, *(str(path.relative_to(ROOT)) for path in POSTGRESQL.iterdir() if path.is_file())]:
+        (copy / name).parent.mkdir(parents=True, exist_ok=True)
+        shutil.copy(ROOT / name, copy / name)
+    scripts = copy / "databases" / "postgresql"
+    before = {path.name: path.read_bytes() for path in scripts.glob("npss*")}
+    changes = copy / "CHANGELOG.md"
+    changes.write_text(changes.read_text(encoding="utf-8").replace("## Unreleased", "## Unreleased\n\n## 9.8.7 - 2099-01-01", 1), encoding="utf-8")
+    tally.same("a release is written", (run_release(copy, "--write")[0], run_release(copy)), (0, (0, "9.8.7\n")))
+    tally.same("a release leaves the SQL", {path.name: path.read_bytes() for path in scripts.glob("npss*")}, before)
+    listed = subprocess.run(["sha256sum", "-c", "--quiet", "released"], cwd=scripts, stdout=subprocess.PIPE, stderr=subprocess.STDOUT, text=True, check=False)
+    tally.same("its scripts are listed as released", (listed.returncode, listed.stdout, {line.split()[1] for line in (scripts / "released").read_text().splitlines()}),
+               (0, "", {name for name in before if name.endswith(".sql")}))
+    for name, told in (("npss--0.2.sql", "npss--0.2.sql isn't as it was released"), ("npss--0.2--0.3.sql", "no script leads from version 0.2 to")):
+        kept = (scripts / name).read_bytes()
+        (scripts / name).write_bytes(kept + b"-- more\n") if name.count("--") == 1 else (scripts / name).unlink()
+        status, written = run_release(copy, "--write")
+        tally.check(f"a release is refused where {name} was changed or is gone", status == 1 and told in written, written)
+        (scripts / name).write_bytes(kept)
+
+
 def main():
     prefix = Path(sys.argv[1] if len(sys.argv) > 1 else ROOT / "out" / "c").resolve()
     tally = Tally()
@@ -92,6 +121,7 @@ def main():
         Path(name).chmod(0o755)
         versions.mkdir()
         versions_below(files, versions)
+        check_release(tally, Path(name))
         check_sqlite(tally, prefix, versions, room)
         if has_postgresql():
             counted(tally, "keys in PostgreSQL", [sys.executable, POSTGRESQL / "test_postgresql.py", prefix, versions, ROOT / "fixtures"])

@@ -16,14 +16,37 @@
 
 #include "postgres.h"
 
-#include "common/sha2.h"
 #include "fmgr.h"
 #include "nodes/pg_list.h"
+#include "utils/relcache.h"
+#include "utils/snapshot.h"
 
 #include <npss.h>
 
+#if PG_VERSION_NUM < 130000
+#error "PostgreSQL 13 or later is wanted"
+#endif
+
 #define LABEL_SIZE 32
-#define DIGEST_SIZE (2 * PG_SHA256_DIGEST_LENGTH + 1)
+/* SHA-256, as hex digits. */
+#define DIGEST_SIZE (2 * 32 + 1)
+/* Texts of more bytes go through a stream, in pieces, so that they can be interrupted. */
+#define LONG_TEXT (1024 * 1024)
+#define PIECE (64 * 1024)
+
+typedef struct Bytes
+{
+	const uint8 *at;
+	size_t		length;
+} Bytes;
+
+static inline Bytes
+bytes_of(text *input)
+{
+	Bytes		bytes = {(const uint8 *) VARDATA_ANY(input), VARSIZE_ANY_EXHDR(input)};
+
+	return bytes;
+}
 
 /* The tables of a version, in a memory context of their own, whose end closes the handle. */
 typedef struct Version
@@ -45,11 +68,30 @@ typedef struct Failure
 	char	   *message;
 	char	   *detail;			/* or NULL */
 	char	   *hint;			/* or NULL */
+	bool		is_of_folder;	/* whoever reads the log is told where npss.folder is; nobody else is */
 } Failure;
+
+/* A row of npss_record. */
+typedef struct Row
+{
+	int64		assigned;
+	bool		ascii;
+	char		label[LABEL_SIZE];
+	char		digest[DIGEST_SIZE];
+} Row;
 
 /* npss_pg.c */
 extern const char *npss_folder(void);
 extern const char *npss_wanted_version(void);
+
+/* files.c */
+extern bool read_files(const char *label, Bytes *data, Bytes *exclusions, Failure *failure);
+extern void make_digest(char *digest, const Bytes *data, const Bytes *exclusions);
+extern bool has_folder(Failure *failure);
+extern bool is_label(const char *label);
+extern List *labels_in_folder(Failure *failure);
+extern bool fail(Failure *failure, int sqlstate, char *message, char *detail, char *hint);
+extern void report(int level, const Failure *failure);
 
 /* versions.c */
 extern Version *open_version(const char *label, Failure *failure);
@@ -58,14 +100,26 @@ extern void keep_version(Version *version);
 extern void shut_version(Version *version);
 extern void shut_versions_but(Version *kept);
 extern void preload_versions(void);
-extern List *labels_in_folder(Failure *failure);
 extern const char *break_name(uint32_t fault);
-extern void report(int level, const Failure *failure);
 
 /* record.c */
+extern List *read_rows(Relation relation, Snapshot snapshot);
+extern List *rows_beside(Oid function);
+extern Version *open_recorded(const Row *row, Failure *failure);
 extern Version *version_in_force(FunctionCallInfo call);
-extern bool needs_no_tables(FunctionCallInfo call, const char *text, size_t length);
+extern Version *version_for_question(FunctionCallInfo call);
 extern Version *newer_version(FunctionCallInfo call, Version *version);
+extern const char *label_not_here(void);
+extern bool lags_in_analyze(void);
+extern bool needs_no_tables(FunctionCallInfo call, const char *text, size_t length);
 extern void listen_to_record(void);
+
+/* refusals.c */
+extern uint8 form_of(text *form);
+extern int	characters_before(Bytes input, uint64 place);
+extern void refuse(npss_answer answer, Bytes input, Version *version);
+
+/* keys.c */
+extern text *normal_form(Version *version, uint8 form, Bytes input);
 
 #endif

@@ -5,31 +5,22 @@
 #include "npss_pg.h"
 
 #include "access/genam.h"
-#include "access/htup_details.h"
 #include "access/table.h"
+#include "access/xact.h"
 #include "catalog/namespace.h"
 #include "commands/progress.h"
-#include "commands/trigger.h"
-#include "funcapi.h"
-#include "mb/pg_wchar.h"
+#include "executor/spi.h"
 #include "miscadmin.h"
-#include "postmaster/autovacuum.h"
-#include "storage/lmgr.h"
+#if PG_VERSION_NUM >= 140000
 #include "utils/backend_status.h"
+#else
+#include "pgstat.h"
+#endif
 #include "utils/builtins.h"
 #include "utils/inval.h"
 #include "utils/lsyscache.h"
 #include "utils/rel.h"
-#include "utils/snapmgr.h"
-
-/* A row of npss_record. */
-typedef struct Row
-{
-	int64		assigned;
-	bool		ascii;
-	char		label[LABEL_SIZE];
-	char		digest[DIGEST_SIZE];
-} Row;
+#include "utils/timestamp.h"
 
 /* What this process knows of the record, until the record changes. */
 static struct
@@ -37,7 +28,9 @@ static struct
 	Oid			table;			/* npss_record, where it was read and has not changed since; else invalid */
 	bool		ascii;			/* texts of ASCII are their own keys under the version in force */
 	bool		lags;			/* the files of the version in force were not here: an earlier one serves */
+	TimestampTz looked;			/* the beginning of the statement that last looked whether they are here by now */
 	Version    *version;		/* what serves; NULL where no text has wanted it yet */
+	char		label[LABEL_SIZE];	/* of the version in force */
 }			known;
 
 static Oid	watched = InvalidOid;	/* the table whose changes are listened to */
@@ -57,7 +50,7 @@ by_count(const ListCell *left, const ListCell *right)
  * The rows of the record, from the greatest count: the first is in force, and extends each other one.  Without a snapshot
  * they are those that were committed last.
  */
-static List *
+List *
 read_rows(Relation relation, Snapshot snapshot)
 {
 	SysScanDesc scan = systable_beginscan(relation, InvalidOid, false, snapshot, 0, NULL);
@@ -70,10 +63,10 @@ read_rows(Relation relation, Snapshot snapshot)
 		Row		   *row = palloc(sizeof(Row));
 		bool		is_null;
 
-		strlcpy(row->label, TextDatumGetCString(heap_getattr(tuple, 1, shape, &is_null)), LABEL_SIZE);
-		strlcpy(row->digest, TextDatumGetCString(heap_getattr(tuple, 2, shape, &is_null)), DIGEST_SIZE);
-		row->assigned = DatumGetInt64(heap_getattr(tuple, 3, shape, &is_null));
-		row->ascii = DatumGetBool(heap_getattr(tuple, 4, shape, &is_null));
+		strlcpy(row->label, TextDatumGetCString(SPI_getbinval(tuple, shape, 1, &is_null)), LABEL_SIZE);
+		strlcpy(row->digest, TextDatumGetCString(SPI_getbinval(tuple, shape, 2, &is_null)), DIGEST_SIZE);
+		row->assigned = DatumGetInt64(SPI_getbinval(tuple, shape, 3, &is_null));
+		row->ascii = DatumGetBool(SPI_getbinval(tuple, shape, 4, &is_null));
 		rows = lappend(rows, row);
 	}
 	systable_endscan(scan);
@@ -81,18 +74,8 @@ read_rows(Relation relation, Snapshot snapshot)
 	return rows;
 }
 
-static void
-want_utf8(void)
-{
-	if (GetDatabaseEncoding() != PG_UTF8)
-		ereport(ERROR,
-				(errcode(ERRCODE_FEATURE_NOT_SUPPORTED),
-				 errmsg("npss works in databases of encoding UTF8 only"),
-				 errdetail("This database has encoding %s.", GetDatabaseEncodingName())));
-}
-
 /* The record beside a function, and its rows. */
-static List *
+List *
 rows_beside(Oid function)
 {
 	Oid			found = get_relname_relid("npss_record", get_func_namespace(function));
@@ -119,13 +102,14 @@ rows_beside(Oid function)
 				 errhint("SELECT npss_raise('15.0') records the version of that folder.")));
 	}
 	known.ascii = ((Row *) linitial(rows))->ascii;
+	strlcpy(known.label, ((Row *) linitial(rows))->label, LABEL_SIZE);
 	return rows;
 }
 
 /* ---------- the version in force */
 
 /* The version of a row, where its files have the digest that was recorded; it is kept.  NULL where it fails. */
-static Version *
+Version *
 open_recorded(const Row *row, Failure *failure)
 {
 	Version    *version = find_version(row->digest);
@@ -146,23 +130,27 @@ open_recorded(const Row *row, Failure *failure)
 }
 
 /*
- * Whether the present command is ANALYZE, which asks for keys of rows that are stored already.  A session that tracks no
- * activities doesn't tell; autovacuum evaluates expressions for nothing else.
+ * Whether the present command is ANALYZE, which asks for keys of rows that are stored already, and stores none.  The process
+ * tells that by itself, unless it tracks no activities; PostgreSQL 13 keeps it to itself.  VACUUM is another command: it
+ * stores what it asks for in BRIN indexes.
  */
 static bool
 is_analyzing(void)
 {
-	return IsAutoVacuumWorkerProcess() ||
-		(MyBEEntry != NULL && MyBEEntry->st_progress_command == PROGRESS_COMMAND_ANALYZE);
+#if PG_VERSION_NUM >= 140000
+	return MyBEEntry != NULL && MyBEEntry->st_progress_command == PROGRESS_COMMAND_ANALYZE;
+#else
+	return false;
+#endif
 }
 
 /*
  * Opens the version in force.  Where its files are not here, as on a standby that got them late, the newest recorded one
- * whose files are here serves, with a warning: its keys are the same, but it refuses more.  Where none is here it is an
- * error; in ANALYZE a warning and NULL.
+ * whose files are here serves, which is told as loudly as `level` says: its keys are the same, but it refuses more.  Where
+ * none is here it is an error; in ANALYZE a warning and NULL.
  */
 static Version *
-open_in_force(Oid function)
+open_in_force(Oid function, int level)
 {
 	List	   *rows = rows_beside(function);
 	Version    *version = NULL;
@@ -174,7 +162,7 @@ open_in_force(Oid function)
 		version = open_recorded(lfirst(at), &failure);
 		if (version != NULL)
 			break;
-		report(lnext(rows, at) != NULL || is_analyzing() ? WARNING : ERROR, &failure);
+		report(lnext(rows, at) != NULL ? level : is_analyzing() ? WARNING : ERROR, &failure);
 	}
 	if (version == NULL)
 	{
@@ -182,6 +170,7 @@ open_in_force(Oid function)
 		return NULL;
 	}
 	known.lags = version->assigned < ((Row *) linitial(rows))->assigned;
+	known.looked = GetCurrentStatementStartTimestamp();
 	known.version = version;
 	list_free_deep(rows);
 	shut_versions_but(version);
@@ -194,7 +183,54 @@ version_in_force(FunctionCallInfo call)
 {
 	if (likely(OidIsValid(known.table) && known.version != NULL))
 		return known.version;
-	return open_in_force(call->flinfo->fn_oid);
+	return open_in_force(call->flinfo->fn_oid, WARNING);
+}
+
+/* What serves, where it lags behind the record: once in a statement it is looked whether the newer files are here by now. */
+static Version *
+followed(FunctionCallInfo call, int level)
+{
+	if (!known.lags || known.looked == GetCurrentStatementStartTimestamp())
+		return known.version;
+	return open_in_force(call->flinfo->fn_oid, level);
+}
+
+/* The version in force, for an answer that a newer one gives otherwise; NULL as version_in_force. */
+Version *
+version_for_question(FunctionCallInfo call)
+{
+	Version    *version = version_in_force(call);
+
+	return version == NULL || likely(!known.lags) ? version : followed(call, DEBUG1);
+}
+
+/* Before a refusal: the version that serves now. */
+Version *
+newer_version(FunctionCallInfo call, Version *version)
+{
+	return likely(!known.lags) ? version : followed(call, WARNING);
+}
+
+/* The label of the version in force, where its files are not here and an earlier version serves; else NULL. */
+const char *
+label_not_here(void)
+{
+	return known.lags ? known.label : NULL;
+}
+
+/* Whether a text that is refused may have a key all the same, and ANALYZE asks for it, which goes on without. */
+bool
+lags_in_analyze(void)
+{
+	static TimestampTz told = 0;
+
+	if (!known.lags || !is_analyzing())
+		return false;
+	if (told != GetCurrentStatementStartTimestamp())
+		ereport(WARNING,
+				(errmsg("npss: ANALYZE leaves out names that are new in Unicode version \"%s\", whose files are not here", known.label)));
+	told = GetCurrentStatementStartTimestamp();
+	return true;
 }
 
 static bool
@@ -230,13 +266,6 @@ needs_no_tables(FunctionCallInfo call, const char *text, size_t length)
 	return known.ascii;
 }
 
-/* Where a version lags behind the record, the one that serves now: the newer files may be here by now. */
-Version *
-newer_version(FunctionCallInfo call, Version *version)
-{
-	return known.lags ? open_in_force(call->flinfo->fn_oid) : version;
-}
-
 /* The record may have changed: the next call reads it again.  Comes by commits of others, here and on standbys. */
 static void
 record_changed(Datum unused, Oid relation)
@@ -252,244 +281,4 @@ void
 listen_to_record(void)
 {
 	CacheRegisterRelcacheCallback(record_changed, (Datum) 0);
-}
-
-/* ---------- for whoever runs the database */
-
-PG_FUNCTION_INFO_V1(npss_pg_version);
-Datum
-npss_pg_version(PG_FUNCTION_ARGS)
-{
-	Version    *version = version_in_force(fcinfo);
-	TupleDesc	shape;
-	Datum		values[4];
-	bool		nulls[4] = {false, false, false, false};
-
-	if (version == NULL)
-		PG_RETURN_NULL();
-	if (get_call_result_type(fcinfo, NULL, &shape) != TYPEFUNC_COMPOSITE)
-		elog(ERROR, "return type must be a row type");
-	values[0] = CStringGetTextDatum(version->label);
-	values[1] = CStringGetTextDatum(version->digest);
-	values[2] = Int64GetDatum(version->assigned);
-	values[3] = BoolGetDatum(version->preloaded);
-	PG_RETURN_DATUM(HeapTupleGetDatum(heap_form_tuple(BlessTupleDesc(shape), values, nulls)));
-}
-
-/* The version of a label, or an error. */
-static Version *
-opened(const char *label)
-{
-	Failure		failure;
-	Version    *version = open_version(label, &failure);
-
-	if (version == NULL)
-		report(ERROR, &failure);
-	return version;
-}
-
-/* What raising to a label would break: `extends`, or the first break.  Changes nothing. */
-PG_FUNCTION_INFO_V1(npss_pg_audit);
-Datum
-npss_pg_audit(PG_FUNCTION_ARGS)
-{
-	Version    *now = version_in_force(fcinfo),
-			   *then = opened(text_to_cstring(PG_GETARG_TEXT_PP(0)));
-	npss_answer answer = {0};
-
-	if (now != NULL)
-		answer = npss_extends(&now->handle, &then->handle);
-	shut_version(then);
-	if (answer.status == NPSS_DONE)
-		PG_RETURN_TEXT_P(cstring_to_text("extends"));
-	PG_RETURN_TEXT_P(cstring_to_text(psprintf("%s %04X", break_name(answer.fault), answer.code)));
-}
-
-/* Whether a version can be raised to, or is recorded, on this very server: its files are here, whole and right. */
-PG_FUNCTION_INFO_V1(npss_pg_ready);
-Datum
-npss_pg_ready(PG_FUNCTION_ARGS)
-{
-	char	   *label = text_to_cstring(PG_GETARG_TEXT_PP(0));
-	List	   *rows = rows_beside(fcinfo->flinfo->fn_oid);
-	Failure		failure;
-	Version    *version = open_version(label, &failure);
-	const char *why = NULL;
-	TupleDesc	shape;
-	Datum		values[2];
-	bool		nulls[2] = {false, false};
-	ListCell   *at;
-
-	if (version == NULL)
-		why = failure.detail != NULL ? psprintf("%s: %s", failure.message, failure.detail) : failure.message;
-	foreach(at, rows)
-	{
-		Row		   *row = lfirst(at);
-
-		if (version != NULL && strcmp(row->label, label) == 0 && strcmp(row->digest, version->digest) != 0)
-			why = psprintf("the files are not those that this database recorded as \"%s\"", label);
-	}
-	if (version != NULL)
-		shut_version(version);
-	if (get_call_result_type(fcinfo, NULL, &shape) != TYPEFUNC_COMPOSITE)
-		elog(ERROR, "return type must be a row type");
-	values[0] = BoolGetDatum(why == NULL);
-	nulls[1] = why == NULL;
-	values[1] = why == NULL ? (Datum) 0 : CStringGetTextDatum(why);
-	PG_RETURN_DATUM(HeapTupleGetDatum(heap_form_tuple(BlessTupleDesc(shape), values, nulls)));
-}
-
-/* The label with the greatest count in the folder, or that of npss.version: for CREATE EXTENSION. */
-PG_FUNCTION_INFO_V1(npss_pg_newest);
-Datum
-npss_pg_newest(PG_FUNCTION_ARGS)
-{
-	char		newest[LABEL_SIZE] = "";
-	int64		assigned = -1;
-	Failure		failure;
-	List	   *labels;
-	ListCell   *at;
-
-	if (npss_wanted_version()[0] != '\0')
-		PG_RETURN_TEXT_P(cstring_to_text(npss_wanted_version()));
-	labels = labels_in_folder(&failure);
-	foreach(at, labels)
-	{
-		Version    *version = open_version(lfirst(at), &failure);
-
-		if (version == NULL)
-		{
-			report(WARNING, &failure);
-			continue;
-		}
-		if (version->assigned > assigned)
-		{
-			assigned = version->assigned;
-			strlcpy(newest, version->label, LABEL_SIZE);
-		}
-		shut_version(version);
-	}
-	if (assigned < 0)
-		report(ERROR, &failure);
-	/* Not NOTICE, which CREATE EXTENSION holds back. */
-	ereport(INFO, (errmsg("npss: this database uses Unicode version \"%s\", the newest in npss.folder", newest)));
-	PG_RETURN_TEXT_P(cstring_to_text(newest));
-}
-
-/* ---------- the trigger */
-
-/* Refuses a version that neither extends the one in force nor is extended by it; tells of one that comes late. */
-static void
-check_row(Version *fresh, const Row *force, bool is_restored)
-{
-	Failure		failure;
-	Version    *held = open_recorded(force, &failure);
-	bool		is_newer = fresh->assigned >= force->assigned;
-	npss_answer answer;
-
-	if (held == NULL)
-		report(ERROR, &failure);
-	answer = is_newer ? npss_extends(&held->handle, &fresh->handle) : npss_extends(&fresh->handle, &held->handle);
-	if (answer.status != NPSS_DONE)
-		ereport(ERROR,
-				(errcode(ERRCODE_OBJECT_NOT_IN_PREREQUISITE_STATE),
-				 errmsg("Unicode version \"%s\" does not extend \"%s\"",
-						(is_newer ? fresh : held)->label, (is_newer ? held : fresh)->label),
-				 errdetail("First break: %s %04X.", break_name(answer.fault), answer.code),
-				 errhint("Keys that are stored could change.  Keep the version in use.")));
-	if (is_newer)
-		return;
-	if (!is_restored)
-		ereport(ERROR,
-				(errcode(ERRCODE_OBJECT_NOT_IN_PREREQUISITE_STATE),
-				 errmsg("Unicode version \"%s\" is older than \"%s\", which this database uses", fresh->label, held->label),
-				 errhint("There is no way back: stored keys may need the newer version.")));
-	ereport(WARNING,
-			(errmsg("the dump comes from Unicode version \"%s\", and this database uses \"%s\"", fresh->label, held->label),
-			 errhint("To stay with the older version, restore into an empty database with npss.version = '%s'.", fresh->label)));
-}
-
-/* The version of a row that is to be recorded: of its label, and where it has a digest, of these files. */
-static Version *
-version_of_row(HeapTuple row, TupleDesc shape, bool *is_restored)
-{
-	Failure		failure;
-	Version    *fresh;
-	bool		is_null;
-	char	   *label;
-	Datum		value = heap_getattr(row, 1, shape, &is_null);
-
-	if (is_null)
-		ereport(ERROR, (errcode(ERRCODE_NOT_NULL_VIOLATION), errmsg("npss_record wants a label")));
-	label = TextDatumGetCString(value);
-	value = heap_getattr(row, 2, shape, &is_null);
-	*is_restored = !is_null;
-	fresh = open_version(label, &failure);
-	if (fresh == NULL)
-		report(ERROR, &failure);
-	if (*is_restored && strcmp(fresh->digest, TextDatumGetCString(value)) != 0)
-		ereport(ERROR,
-				(errcode(ERRCODE_OBJECT_NOT_IN_PREREQUISITE_STATE),
-				 errmsg("npss: the files of Unicode version \"%s\" are not those that were recorded", label),
-				 errdetail("The recorded digest is %s.", TextDatumGetCString(value)),
-				 errhint("Put the recorded files into npss.folder.")));
-	return fresh;
-}
-
-static bool
-is_recorded(const List *rows, const char *digest)
-{
-	ListCell   *at;
-
-	foreach(at, rows)
-		if (strcmp(((Row *) lfirst(at))->digest, digest) == 0)
-			return true;
-	return false;
-}
-
-/* Before a row gets into the record: fills in digest and count, and audits it against the row in force. */
-PG_FUNCTION_INFO_V1(npss_pg_record_check);
-Datum
-npss_pg_record_check(PG_FUNCTION_ARGS)
-{
-	TriggerData *call = (TriggerData *) fcinfo->context;
-	int			columns[] = {2, 3, 4};
-	bool		nulls[] = {false, false, false};
-	Datum		values[3];
-	Relation	relation;
-	HeapTuple	row;
-	Version    *fresh;
-	bool		is_restored;
-	List	   *rows;
-
-	if (!CALLED_AS_TRIGGER(fcinfo))
-		elog(ERROR, "npss_record_check is a trigger");
-	if (!TRIGGER_FIRED_BY_INSERT(call->tg_event))
-		ereport(ERROR,
-				(errcode(ERRCODE_OBJECT_NOT_IN_PREREQUISITE_STATE),
-				 errmsg("npss_record only grows"),
-				 errdetail("Stored keys may need each version that was recorded.")));
-	want_utf8();
-	relation = call->tg_relation;
-	/* It keeps other raises away, but not their INSERT, which has its lock already: no two wait for one another. */
-	LockRelationOid(RelationGetRelid(relation), ShareUpdateExclusiveLock);
-	fresh = version_of_row(call->tg_trigtuple, RelationGetDescr(relation), &is_restored);
-	rows = read_rows(relation, SnapshotSelf);	/* with the rows that this very statement has put in */
-	if (rows != NIL)
-	{
-		if (strcmp(((Row *) linitial(rows))->digest, fresh->digest) != 0)
-			check_row(fresh, linitial(rows), is_restored);
-		if (is_recorded(rows, fresh->digest))
-		{
-			shut_version(fresh);
-			PG_RETURN_POINTER(NULL);
-		}
-	}
-	values[0] = CStringGetTextDatum(fresh->digest);
-	values[1] = Int64GetDatum(fresh->assigned);
-	values[2] = BoolGetDatum(fresh->ascii);
-	row = heap_modify_tuple_by_cols(call->tg_trigtuple, RelationGetDescr(relation), 3, columns, values, nulls);
-	shut_version(fresh);
-	CacheInvalidateRelcache(relation);
-	PG_RETURN_POINTER(row);
 }

@@ -11,7 +11,10 @@ import subprocess
 from pathlib import Path
 
 MAJOR = "15"
-LIBRARIES, SHARED = Path("/usr/lib/postgresql", MAJOR), Path("/usr/share/postgresql", MAJOR)
+# Below NPSS_POSTGRESQL_ROOT another minor version than the system's may be unpacked, to be run in its place.
+ROOT = Path(os.environ.get("NPSS_POSTGRESQL_ROOT", "/"))
+LIBRARIES, SHARED = ROOT / "usr/lib/postgresql" / MAJOR, ROOT / "usr/share/postgresql" / MAJOR
+PG_CONFIG = Path("/usr/lib/postgresql", MAJOR, "bin", "pg_config")
 HEADER = Path("/usr/include/postgresql", MAJOR, "server", "postgres.h")
 HERE = Path(__file__).resolve().parent
 USER = "postgres"
@@ -50,13 +53,13 @@ def installed(folder, prefix):
     shutil.copytree(SHARED, folder / "share" / "postgresql" / MAJOR)
     source = folder / "source"
     shutil.copytree(HERE, source, ignore=shutil.ignore_patterns("__pycache__", "*.o", "*.so", "results"))
-    make = ["make", "-s", "-C", source, f"NPSS={prefix}", f"PG_CONFIG={LIBRARIES}/bin/pg_config", "with_llvm=no"]
+    make = ["make", "-s", "-C", source, f"NPSS={prefix}", f"PG_CONFIG={PG_CONFIG}", "with_llvm=no"]
     built = subprocess.run(list(map(str, make)), stdout=subprocess.PIPE, stderr=subprocess.STDOUT, text=True, check=False)
     if built.returncode or "warning" in built.stdout:
         raise RuntimeError(f"the extension isn't built cleanly: {built.stdout}")
     shutil.copy(source / "npss.so", libraries / "lib")
-    for name in ("npss.control", "npss--0.2.sql"):
-        shutil.copy(source / name, folder / "share" / "postgresql" / MAJOR / "extension")
+    for file in (source / "npss.control", *source.glob("npss--*.sql")):
+        shutil.copy(file, folder / "share" / "postgresql" / MAJOR / "extension")
     return libraries / "bin"
 
 

@@ -151,26 +151,6 @@ class Missing(Case):
             away.rename(self.versions)
         self.assertEqual(self.server.sql(f"SELECT npss_nfc('{MARKED}')", base), "\u1ead")
 
-    def test_autovacuum_survives(self):
-        base = self.base("vacuumed", "15.0")
-        self.server.sql("CREATE TABLE account (name text) WITH (autovacuum_analyze_threshold = 1); CREATE INDEX account_key ON account (npss_nfc(name))", base)
-        self.server.sql(f"INSERT INTO account SELECT '{MARKED}' || n FROM generate_series(1, 1000) n", base)
-        away = self.folder / "away"
-        self.versions.rename(away)
-        self.server.configure(autovacuum_naptime="1s", track_activities="off")
-        self.server.control("reload")
-        try:
-            for _ in range(100):
-                if self.server.sql("SELECT autoanalyze_count > 0 FROM pg_stat_user_tables WHERE relname = 'account'", base) == "t":
-                    break
-                time.sleep(0.3)
-            else:
-                self.fail("autovacuum doesn't analyze")
-        finally:
-            away.rename(self.versions)
-            self.server.configure(track_activities="on")
-            self.server.control("reload")
-
     def test_what_is_ascii(self):
         base = self.base("texts", "15.0")
         for front in (0, 3, 7, 8, 15, 16, 17):

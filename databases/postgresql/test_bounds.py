@@ -19,8 +19,24 @@ class Bounds(Case):
         self.server.sql("CREATE TABLE long (body text); ALTER TABLE long ALTER body SET STORAGE EXTERNAL;"
                         f"INSERT INTO long VALUES (repeat('{MARKED}', 36000000))", base)
         session = self.session(base)
-        for call in ("npss_nfc(body)", "npss_normalize(body)", "npss_is_normalized(body)", "npss_equivalent(body, body)"):
+        for call in ("npss_nfc(body)", "npss_normalize(body)", "npss_is_normalized(body)", "npss_equivalent(body, body)", "npss_equivalent('a', body)"):
             self.ends_early(session, f"SELECT {call} IS NULL FROM long")
+
+    def test_a_comparison_ends_where_one_text_is_long(self):
+        # The short text is made eleven times as long. What stands behind the comparison isn't reached, and shows where it ended.
+        base = self.base("compared", "15.0")
+        self.server.sql("CREATE SEQUENCE told; CREATE TABLE pair AS SELECT repeat(letter, 340000) AS short, repeat(npss_nfkd(letter), 340000) AS long "
+                        "FROM (VALUES ('\ufdfa')) AS of (letter)", base)
+        for pair in ("short, long", "long, short"):
+            session = self.session(base)
+            session.ask("SELECT npss_nfc('\u1ead'), nextval('told')")
+            before = self.server.sql("SELECT last_value FROM told", base)
+            own = self.spent(session, "SELECT short < long FROM pair")[0]
+            whole, told = self.spent(session, f"SELECT npss_equivalent({pair}, 'nfkd') FROM pair")
+            self.assertEqual(told, "t")
+            session.ask(f"SET statement_timeout = {max(1, round(1000 * (own + (whole - own) / 8)))}")
+            self.assertIn("57014", session.ask(f"SELECT npss_equivalent({pair}, 'nfkd') AND nextval('told') > 0 FROM pair"))
+            self.assertEqual(self.server.sql("SELECT last_value FROM told", base), before)
 
     def ends_early(self, session, text, before=None):
         """A timeout ends the statement before the middle of what it takes behind its beginning, which PostgreSQL itself does."""
@@ -127,6 +143,8 @@ class Memory(Case):
                       "SELECT npss_raise('15.0')", "SELECT npss_raise('13.0')", "SELECT npss_raise('none')", f"SELECT npss_nfc('{YOUNG}')",
                       "SELECT length(npss_nfd(repeat('\u1ead', 400000)))", "SELECT npss_ready('14.0'), npss_ready('none')",
                       "CREATE CAST (bytea AS text) WITHOUT FUNCTION"]
+        # Results around the room, and of each remainder of 8 above it, since memory is handed out in eights.
+        statements += [f"SELECT length(npss_nfc(repeat('x', {length - 2}) || '\u00eb'))" for length in (*range(65_534, 65_550), 100_000)]
         # Streams that end at an error, and versions that end with a call.
         statements += ["SELECT npss_normalize(decode(repeat('61', 1500000) || 'ff', 'hex')::text)", "SELECT npss_audit('14.0')"] * 4
         told = self.folder / "valgrind"
@@ -141,5 +159,6 @@ class Memory(Case):
             self.server.start()
         self.assertEqual(ran.returncode, 0, ran.stdout[-2000:])
         self.assertIn("\u1ead", ran.stdout)
+        self.assertIn('length = "65548"', ran.stdout)
         errors = re.split(r"\n==\d+== \n", (told / "log").read_text())
         self.assertEqual([error for error in errors if "npss" in error], [])

@@ -15,7 +15,12 @@ from cases import FILES, FIXTURES, PREFIX, Case, copied
 from server import HERE, LIBRARIES, installed, own, run
 from test_attacks import Attacks, Missing, Preloaded
 from test_bounds import Bounds, Memory
+from test_extension import Extension
+from test_page import Page
 from test_record import Dumps, Ends, Standby, Upgrades
+from test_rights import Rights
+from test_texts import Long, Words
+from test_vacuum import Vacuums
 
 
 class Regress(Case):

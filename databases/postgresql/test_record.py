@@ -94,6 +94,17 @@ class Upgrades(Case):
         self.assertEqual(self.server.sql("SELECT npss_audit('14.0'), npss_audit('sibling')", base), "extends|extends")
         self.assertIn("Lost 1DFA", self.refused("55000", "INSERT INTO npss_record (label) VALUES ('14.0'), ('sibling')", base))
 
+    def test_files_that_are_recorded_already_under_another_name(self):
+        base = self.base("names", "14.0")
+        self.server.sql("SELECT npss_raise('15.0')", base)
+        copied(self.versions, {"15.0.0": VERSIONS / "15.0"})
+        self.addCleanup(shutil.rmtree, self.versions / "15.0.0")
+        self.assertEqual(self.server.sql("SELECT npss_raise('15.0.0')", base), "15.0")
+        self.assertIn('NOTICE:  00000: the files of Unicode version "15.0.0" are recorded already as "15.0"', self.server.told)
+        self.assertEqual(self.server.sql("SELECT npss_raise('15.0')", base), "15.0")
+        self.assertNotIn("NOTICE", self.server.told)
+        self.assertEqual(self.server.sql("SELECT count(*) FROM npss_record", base), "2")
+
     def test_an_index_is_built_by_the_first_statement_of_a_session(self):
         base = self.base("firsts", "15.0")
         self.server.sql("CREATE TABLE account AS SELECT 'a' || chr(770) || n AS name FROM generate_series(1, 60000) n", base)
@@ -172,6 +183,37 @@ class Standby(Case):
         self.assertEqual(standby.sql("SELECT ready FROM npss_ready('15.0')", base), "t")
         self.assertEqual(session.ask(f"SELECT npss_nfc('{YOUNGEST}') = '{YOUNGEST}';"), "t")
 
+    def test_questions_of_a_standby_that_lags(self):
+        base = self.base("asked", "13.0")
+        versions = copied(self.folder / "later", {"13.0": VERSIONS / "13.0"})
+        standby = Server(self.programs, self.folder / "asked", versions)
+        run([self.programs / "pg_basebackup", "-h", self.server.folder, "-U", "postgres", "-D", standby.data, "-R", "-X", "stream", "-c", "fast"])
+        standby.configure().start()
+        self.addCleanup(standby.stop, "immediate")
+        # U+1E030 is new in 15.0, and has a mapping there.
+        asked = {"SELECT code_point FROM npss_first_unassigned('\U0001e030')": ("U+1E030", ""), "SELECT npss_normalize('\U0001e030', 'nfkc')": ("\U0001e030", "\u0430"),
+                 "SELECT npss_is_normalized('\U0001e030', 'nfkc')": ("t", "f"), "SELECT npss_equivalent('\U0001e030', '\u0430', 'nfkc')": ("f", "t"),
+                 "SELECT assigned FROM npss_why('\U0001e030')": ("f", "t"), "SELECT npss_try_key('\U0001e030', 'nfkc')": ("", "\u0430"),
+                 "SELECT label, lags FROM npss_version()": ("13.0|t", "15.0|f")}
+        sessions = {text: Session(standby, base) for text in asked}
+        auditor = Session(standby, base)
+        for session in (*sessions.values(), auditor):
+            self.addCleanup(session.close)
+            session.ask("SELECT npss_nfc('\u1ead')")
+        self.assertEqual(self.server.sql("SELECT label, lags FROM npss_version()", base), "13.0|f")
+        self.server.sql("SELECT npss_raise('15.0')", base)
+        self.wait(standby, base)
+        for text, session in sessions.items():
+            session.ask("SELECT npss_nfc('\u1ead')")  # which warns
+            self.assertEqual(session.ask(text), asked[text][0], text)
+            self.assertEqual(session.ask(text), asked[text][0], text)
+        told = auditor.ask("SELECT npss_audit('13.0')")
+        self.assertIn('audited against Unicode version "13.0", not against "15.0", which is in force', told)
+        copied(versions, {"15.0": VERSIONS / "15.0"})
+        for text, session in sessions.items():
+            self.assertEqual(session.ask(text), asked[text][1], text)
+        self.assertEqual(auditor.ask("SELECT npss_audit('13.0')"), "Lost 061D")
+
     def wait(self, standby, base):
         """Until the standby has what the server has."""
         place = self.server.sql("SELECT pg_current_wal_lsn()")
@@ -214,6 +256,29 @@ class Dumps(Case):
         self.assertNotIn("WARNING", told)
         self.assertEqual(self.server.sql("SELECT label FROM npss_version()", "back"), "14.0")
         self.refused("22021", f"INSERT INTO account VALUES ('{YOUNGEST}')", "back")
+
+    def test_a_dump_that_the_owner_of_a_database_restores(self):
+        self.filled()
+        dump = run([self.programs / "pg_dump", "-h", self.server.folder, "-U", "postgres", "--no-owner", "dumped"])
+        self.server.sql("DROP DATABASE IF EXISTS owned; DROP ROLE IF EXISTS owner; CREATE ROLE owner LOGIN; ")
+        self.server.sql("CREATE DATABASE owned TEMPLATE template0 OWNER owner LOCALE 'C'")
+        # A superuser makes the extension before; what the dump says of the record is refused then, and nothing else.
+        self.server.sql("SET npss.version = '14.0'; CREATE EXTENSION npss", "owned")
+        self.server.sql("\\set ON_ERROR_STOP off\n\\c - owner\n" + dump, "owned")
+        refused = re.findall(r"ERROR:  42501: (.*)", self.server.told)
+        self.assertEqual(self.server.told.count("ERROR:"), len(refused), self.server.told)
+        self.assertTrue(all("extension npss" in one or "npss_record" in one for one in refused), refused)
+        self.assertEqual(self.server.sql("SELECT count(*) FROM account WHERE key = npss_nfkc(name)", "owned"), "3")
+        self.assertEqual(self.server.sql("SELECT label FROM npss_record", "owned"), "14.0")
+
+    def test_data_alone_comes_behind_its_raise(self):
+        self.filled()
+        dump = run([self.programs / "pg_dump", "-h", self.server.folder, "-U", "postgres", "--data-only", "dumped"])
+        for raised, told in (("", "0"), ("SELECT npss_raise('14.0')", "3")):
+            self.base("late", "13.0")
+            self.server.sql('CREATE TABLE account (name text, key text COLLATE "C" GENERATED ALWAYS AS (npss_nfkc(name)) STORED UNIQUE)', "late")
+            self.server.sql(f"{raised};\n\\set ON_ERROR_STOP off\n{dump}", "late")
+            self.assertEqual(self.server.sql("SELECT count(*) FROM account", "late"), told)
 
     def test_a_dump_comes_into_an_empty_cluster(self):
         self.filled()

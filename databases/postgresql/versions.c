@@ -1,27 +1,10 @@
 /*
  * versions.c
- *		The two files of a version, and the tables that they make.
+ *		The tables that the two files of a version make, and which are kept open.
  */
 #include "npss_pg.h"
 
-#include <fcntl.h>
-#include <sys/stat.h>
-#include <unistd.h>
-
-#include "common/cryptohash.h"
-#include "miscadmin.h"
-#include "storage/fd.h"
-#include "utils/builtins.h"
 #include "utils/memutils.h"
-#include "utils/resowner.h"
-
-#define MOST_OF_A_FILE 16777216
-
-typedef struct Bytes
-{
-	uint8	   *at;
-	size_t		length;
-} Bytes;
 
 static Version *versions = NULL;	/* all that are kept open in this process */
 
@@ -36,102 +19,6 @@ const char *
 break_name(uint32_t fault)
 {
 	return fault < lengthof(breaks) ? breaks[fault] : "unknown";
-}
-
-/* Tells a failure, as loudly as `level` says. */
-void
-report(int level, const Failure *failure)
-{
-	ereport(level,
-			(errcode(failure->sqlstate),
-			 errmsg("%s", failure->message),
-			 failure->detail ? errdetail("%s", failure->detail) : 0,
-			 failure->hint ? errhint("%s", failure->hint) : 0));
-}
-
-static bool
-fail(Failure *failure, int sqlstate, char *message, char *detail, char *hint)
-{
-	failure->sqlstate = sqlstate;
-	failure->message = message;
-	failure->detail = detail;
-	failure->hint = hint;
-	return false;
-}
-
-/* Reads a file of a version into palloc'd memory.  A pipe or a device is not waited for. */
-static bool
-read_file(const char *label, const char *name, Bytes *bytes, Failure *failure)
-{
-	char	   *path = psprintf("%s/%s/%s", npss_folder(), label, name);
-	int			file = OpenTransientFile(path, O_RDONLY | O_NONBLOCK | PG_BINARY);
-	struct stat about;
-	ssize_t		got = 1;
-
-	if (file < 0)
-	{
-		int			sqlstate = errno == EACCES || errno == EPERM ? ERRCODE_INSUFFICIENT_PRIVILEGE : ERRCODE_UNDEFINED_FILE;
-		char	   *message = psprintf("npss: could not open file \"%s\": %m", path);
-
-		return fail(failure, sqlstate, message, NULL,
-					psprintf("Put UnicodeData.txt and CompositionExclusions.txt into a folder of \"%s\" that is named \"%s\".",
-							 npss_folder(), label));
-	}
-	if (fstat(file, &about) != 0 || !S_ISREG(about.st_mode) || about.st_size > MOST_OF_A_FILE)
-	{
-		CloseTransientFile(file);
-		return fail(failure, ERRCODE_CONFIG_FILE_ERROR,
-					psprintf("npss: \"%s\" is not a file of at most %d bytes", path, MOST_OF_A_FILE), NULL, NULL);
-	}
-	bytes->at = palloc(about.st_size + 1);
-	bytes->length = 0;
-	while (bytes->length < (size_t) about.st_size && got > 0)
-	{
-		got = read(file, bytes->at + bytes->length, about.st_size - bytes->length);
-		bytes->length += got > 0 ? got : 0;
-	}
-	CloseTransientFile(file);
-	if (bytes->length != (size_t) about.st_size)
-		return fail(failure, ERRCODE_IO_ERROR, psprintf("npss: could not read file \"%s\"", path), NULL, NULL);
-	return true;
-}
-
-/* The digest of the two files: SHA-256 of the length of the first, eight bytes from the lowest, the first, the second. */
-static void
-make_digest(char *digest, const Bytes *data, const Bytes *exclusions)
-{
-	pg_cryptohash_ctx *hash;
-	uint8		front[8],
-				made[PG_SHA256_DIGEST_LENGTH];
-	ResourceOwner before = CurrentResourceOwner;
-
-	if (before == NULL)			/* in the postmaster, where pg_cryptohash_create would crash */
-		CurrentResourceOwner = ResourceOwnerCreate(NULL, "npss");
-	for (int i = 0; i < 8; i++)
-		front[i] = (uint8) ((uint64) data->length >> (8 * i));
-	hash = pg_cryptohash_create(PG_SHA256);
-	if (hash == NULL || pg_cryptohash_init(hash) < 0 ||
-		pg_cryptohash_update(hash, front, sizeof front) < 0 ||
-		pg_cryptohash_update(hash, data->at, data->length) < 0 ||
-		pg_cryptohash_update(hash, exclusions->at, exclusions->length) < 0 ||
-		pg_cryptohash_final(hash, made, sizeof made) < 0)
-		elog(ERROR, "npss: could not make a digest");
-	pg_cryptohash_free(hash);
-	if (before == NULL)
-	{
-		ResourceOwnerDelete(CurrentResourceOwner);
-		CurrentResourceOwner = NULL;
-	}
-	hex_encode((char *) made, sizeof made, digest);
-	digest[DIGEST_SIZE - 1] = '\0';
-}
-
-static bool
-is_label(const char *label)
-{
-	size_t		length = strspn(label, "0123456789abcdefghijklmnopqrstuvwxyzABCDEFGHIJKLMNOPQRSTUVWXYZ._-");
-
-	return length > 0 && length < LABEL_SIZE && label[length] == '\0' && label[0] != '.';
 }
 
 /* Why two files make no version. */
@@ -205,8 +92,7 @@ fill_version(Version *version, const char *label, Failure *failure)
 				exclusions;
 	npss_answer answer;
 
-	if (!read_file(label, "UnicodeData.txt", &data, failure) ||
-		!read_file(label, "CompositionExclusions.txt", &exclusions, failure))
+	if (!read_files(label, &data, &exclusions, failure))
 		return false;
 	make_digest(version->digest, &data, &exclusions);
 	answer = npss_open(&version->handle, data.at, data.length, exclusions.at, exclusions.length);
@@ -216,15 +102,6 @@ fill_version(Version *version, const char *label, Failure *failure)
 	version->ascii = passes_ascii(&version->handle);
 	strlcpy(version->label, label, LABEL_SIZE);
 	return true;
-}
-
-static bool
-has_folder(Failure *failure)
-{
-	if (npss_folder()[0] != '\0')
-		return true;
-	return fail(failure, ERRCODE_OBJECT_NOT_IN_PREREQUISITE_STATE, "npss.folder is not set", NULL,
-				"A superuser sets npss.folder to a folder that has one folder for each Unicode version.");
 }
 
 /*
@@ -311,28 +188,6 @@ shut_versions_but(Version *kept)
 			MemoryContextDelete(version->context);
 		}
 	}
-}
-
-/* The labels of the folder's folders, in no order. */
-List *
-labels_in_folder(Failure *failure)
-{
-	List	   *labels = NIL;
-	struct dirent *entry;
-	DIR		   *dir;
-
-	if (!has_folder(failure))
-		return NIL;
-	dir = AllocateDir(npss_folder());
-	while (dir != NULL && (entry = ReadDirExtended(dir, npss_folder(), LOG)) != NULL)
-		if (is_label(entry->d_name))
-			labels = lappend(labels, pstrdup(entry->d_name));
-	if (dir != NULL)
-		FreeDir(dir);
-	if (labels == NIL)
-		fail(failure, ERRCODE_OBJECT_NOT_IN_PREREQUISITE_STATE, psprintf("npss.folder \"%s\" has no version", npss_folder()), NULL,
-			 "Put UnicodeData.txt and CompositionExclusions.txt into a folder of it that is named for the version, such as 15.0.");
-	return labels;
 }
 
 /* Opens all versions of the folder in the postmaster.  A fault is told in the log; each use tells it again. */

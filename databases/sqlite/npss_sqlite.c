@@ -4,16 +4,13 @@
  * together, and nobody swaps the files. npss_raise audits newer files against them first.
  *
  * A key stays the same under each version that extends the one under which it was made; that is proved. So npss_key is
- * deterministic. What a raise changes is which texts are refused. A connection that lags behind the record refuses more, and
- * never makes another key: so the record is read again only before a text is refused, or its form is told that has a code
- * point which the version in use lacks. */
+ * deterministic. What a raise changes is which texts are refused. Each call goes by the record as its transaction sees it; it
+ * is read again where the file has changed since. */
 #include "npss_sqlite.h"
 
 #include <string.h>
 
 SQLITE_EXTENSION_INIT1
-
-#define SMALL_ROOM 4096
 
 connection *connection_of(sqlite3_context *call) {
     return sqlite3_user_data(call);
@@ -23,6 +20,9 @@ static void release(void *held) {
     connection *self = held;
     if (--self->users > 0) return;
     npss_close(&self->tables);
+    npss_close(&self->own);
+    forget_attached(self);
+    sqlite3_free(self->room);
     sqlite3_free(self);
 }
 
@@ -42,6 +42,11 @@ int fail(sqlite3_context *call, char *text) {
 int fail_memory(sqlite3_context *call) {
     sqlite3_result_error_nomem(call);
     return 0;
+}
+
+/* The error of the database's last statement. */
+int fail_by_database(sqlite3_context *call) {
+    return fail(call, sqlite3_mprintf("npss: %s", sqlite3_errmsg(connection_of(call)->db)));
 }
 
 /* ---- keys and forms */
@@ -66,19 +71,17 @@ typedef struct maker {
     int may_lack; /* NULL in place of the error that a code point is not assigned */
 } maker;
 
-/* The bytes of a text, as UTF-8; NULL where an error is set. */
+/* The bytes of a value as text, in UTF-8; NULL where an error is set. */
 static const uint8_t *text_of(sqlite3_context *call, sqlite3_value *value, size_t *length) {
-    const uint8_t *text = sqlite3_value_text(value);
+    const uint8_t *text;
+    if (sqlite3_value_type(value) == SQLITE_TEXT && (*length = (size_t)sqlite3_value_bytes(value)) > 0) {
+        text = sqlite3_value_blob(value); /* the text isn't copied, as sqlite3_value_text does to put a zero behind it */
+    } else {
+        text = sqlite3_value_text(value);
+        *length = (size_t)sqlite3_value_bytes(value);
+    }
     if (!text) fail_memory(call);
-    *length = (size_t)sqlite3_value_bytes(value);
     return text;
-}
-
-/* Before an answer that an older version would give otherwise: goes on to the record's version, where the one in use lacks a
- * code point of the text. 0 where an error is set. */
-static int follow(sqlite3_context *call, const uint8_t *text, size_t length) {
-    connection *self = connection_of(call);
-    return npss_first_unassigned(&self->tables, text, length).status != NPSS_UNASSIGNED || renew(call, self) >= 0;
 }
 
 /* Makes it in a room of its own, as large as was told. */
@@ -100,20 +103,13 @@ static void make_large(sqlite3_context *call, const maker *how, const uint8_t *t
 
 static void make(sqlite3_context *call, const maker *how, sqlite3_value *given) {
     connection *self = connection_of(call);
-    uint8_t small[SMALL_ROOM];
     const uint8_t *text;
     size_t length;
     npss_answer a;
     if (sqlite3_value_type(given) == SQLITE_NULL || !ready(call, self) || !(text = text_of(call, given, &length))) return;
-    if (how->make == npss_normalize && !follow(call, text, length)) return;
-    a = how->make(&self->tables, how->form, text, length, small, sizeof small);
-    if (a.status == NPSS_UNASSIGNED) {
-        int renewed = renew(call, self);
-        if (renewed < 0) return;
-        if (renewed) a = how->make(&self->tables, how->form, text, length, small, sizeof small);
-    }
+    a = how->make(&self->tables, how->form, text, length, self->room, ROOM);
     if (a.status == NPSS_DONE) {
-        sqlite3_result_text64(call, (char *)small, a.length, SQLITE_TRANSIENT, SQLITE_UTF8);
+        sqlite3_result_text64(call, (char *)self->room, a.length, SQLITE_TRANSIENT, SQLITE_UTF8);
     } else if (a.status == NPSS_NO_ROOM) {
         make_large(call, how, text, length, a.length);
     } else if (a.status != NPSS_UNASSIGNED || !how->may_lack) {
@@ -174,7 +170,7 @@ static void do_is_normalized(sqlite3_context *call, int count, sqlite3_value **g
     const uint8_t *text;
     size_t length;
     if (!form || sqlite3_value_type(given[0]) == SQLITE_NULL || !ready(call, connection_of(call)) ||
-        !(text = text_of(call, given[0], &length)) || !follow(call, text, length))
+        !(text = text_of(call, given[0], &length)))
         return;
     tell(call, npss_is_form(&connection_of(call)->tables, form, text, length));
 }
@@ -185,8 +181,7 @@ static void do_equivalent(sqlite3_context *call, int count, sqlite3_value **give
     size_t left_length, right_length;
     if (!form || sqlite3_value_type(given[0]) == SQLITE_NULL || sqlite3_value_type(given[1]) == SQLITE_NULL ||
         !ready(call, connection_of(call)) || !(left = text_of(call, given[0], &left_length)) ||
-        !(right = text_of(call, given[1], &right_length)) || !follow(call, left, left_length) ||
-        !follow(call, right, right_length))
+        !(right = text_of(call, given[1], &right_length)))
         return;
     tell(call, npss_equivalent(&connection_of(call)->tables, form == NPSS_NFKC || form == NPSS_NFKD, left, left_length,
                                right, right_length));
@@ -223,15 +218,19 @@ int sqlite3_npss_init(sqlite3 *db, char **error, const sqlite3_api_routines *api
     connection *self;
     int code = SQLITE_OK;
     SQLITE_EXTENSION_INIT2(api);
-    (void)error;
     if (!(self = sqlite3_malloc(sizeof *self))) return SQLITE_NOMEM;
     memset(self, 0, sizeof *self);
     self->users = 1;
     self->db = db;
+    if (!(self->room = sqlite3_malloc(ROOM))) {
+        release(self);
+        return SQLITE_NOMEM;
+    }
     for (size_t i = 0; i < sizeof all / sizeof *all && code == SQLITE_OK; i++) {
         self->users++; /* where it fails, SQLite releases it */
         code = sqlite3_create_function_v2(db, all[i].name, all[i].arguments, all[i].flags, self, all[i].does, NULL, NULL, release);
     }
+    if (code != SQLITE_OK && error) *error = sqlite3_mprintf("npss: %s", sqlite3_errmsg(db));
     release(self);
     return code;
 }

@@ -1,20 +1,53 @@
-/* What the two files of the extension share: npss_sqlite.c, keys and questions, and record.c, the version of a database. */
+/* What the files of the extension share: npss_sqlite.c, keys and questions; record.c, which tables are in use; attached.c,
+ * attached databases; files.c, the two files of a version; raise.c, how a database comes to another version. */
 #ifndef NPSS_SQLITE_H
 #define NPSS_SQLITE_H
 
 #include <npss.h>
 #include <sqlite3ext.h>
 
+/* What is another where the main database may have become another one. */
+typedef struct state {
+    unsigned pager;       /* SQLITE_FCNTL_DATA_VERSION: each commit changes it, also the connection's own */
+    sqlite3_int64 data;   /* PRAGMA data_version: each commit of another connection changes it */
+    sqlite3_int64 schema; /* PRAGMA schema_version */
+    int transaction;      /* SQLITE_TXN_NONE, _READ or _WRITE */
+} state;
+
+/* An attached database that was found to fit the main one, and its numbers then, as those of `state`. */
+typedef struct fitting {
+    char *mark; /* by what it is known again, of sqlite3_mprintf; NULL where none was looked at */
+    unsigned data_version;
+    sqlite3_int64 others, schema;
+} fitting;
+
+/* How many databases of a connection are remembered, by their numbers: main, temp, and as many as SQLite attaches by itself. */
+#define MOST_ATTACHED 12
+
+/* The room for what is made of most texts, in bytes. */
+#define ROOM 4096
+
 /* The tables of one connection. */
 typedef struct connection {
     sqlite3 *db;
-    int users;               /* the functions that point here */
-    npss_handle tables;      /* closed until they are wanted */
-    sqlite3_int64 assigned;  /* how many code points they assign */
-    int is_recorded;         /* they are those of npss_record, and not of npss_open */
-    int has_raised;          /* npss_raise was called here; since a rollback may undo it, each call looks at the record */
-    int is_raising;          /* npss_raise writes the record now */
+    int users;              /* the functions that point here */
+    npss_handle tables;     /* in use; closed until they are wanted */
+    npss_handle own;        /* those of npss_open, until the database has a record that stays */
+    uintptr_t number;       /* of the tables in use, another one each time that others come */
+    sqlite3_int64 assigned; /* how many code points they assign */
+    int is_recorded;        /* they are those of npss_record, and not of npss_open */
+    int may_be_undone;      /* a rollback may take the record back that is in use: each call looks at it */
+    state seen;             /* the main database, when the record was looked at */
+    fitting attached[MOST_ATTACHED];
+    int writes;             /* how many writes of the record npss_raise still lets its triggers pass */
+    uint8_t *room;          /* where what is made of most texts is put */
 } connection;
+
+/* Two files, of sqlite3_malloc or of the caller. */
+typedef struct files {
+    unsigned char *data, *exclusions;
+    size_t data_length, exclusions_length;
+} files;
 
 typedef void function(sqlite3_context *call, int count, sqlite3_value **given);
 
@@ -22,11 +55,29 @@ typedef void function(sqlite3_context *call, int count, sqlite3_value **given);
 connection *connection_of(sqlite3_context *call);
 int fail(sqlite3_context *call, char *text);
 int fail_memory(sqlite3_context *call);
+int fail_by_database(sqlite3_context *call);
+
+/* files.c */
+const char *break_name(npss_answer a);
+int refuse(sqlite3_context *call, npss_answer a);
+int opened(sqlite3_context *call, npss_handle *tables, const files *of);
+int files_of(sqlite3_context *call, int count, sqlite3_value **given, files *found);
+void free_files(files *held);
 
 /* record.c */
-int refuse(sqlite3_context *call, npss_answer a);
+int ask_number(sqlite3 *db, const char *text, sqlite3_int64 *told);
+unsigned data_version(sqlite3 *db, const char *schema);
+int transaction_of(sqlite3 *db, const char *schema);
+int use(sqlite3_context *call, connection *self, npss_handle *tables, int is_recorded);
+int use_record(sqlite3_context *call, connection *self);
 int ready(sqlite3_context *call, connection *self);
-int renew(sqlite3_context *call, connection *self);
+int use_raised(sqlite3_context *call, connection *self, npss_handle *tables);
+
+/* attached.c */
+int fits_attached(sqlite3_context *call, connection *self);
+void forget_attached(connection *self);
+
+/* raise.c */
 function do_version, do_audit, do_open, do_is_raising, do_raise;
 
 #endif

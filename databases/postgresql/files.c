@@ -1,0 +1,170 @@
+/*
+ * files.c
+ *		The folder of versions, the two files of each, and what is wrong with them.
+ */
+#include "npss_pg.h"
+
+#include <fcntl.h>
+#include <sys/stat.h>
+#include <unistd.h>
+
+#include "storage/fd.h"
+#include "utils/builtins.h"
+#include "utils/resowner.h"
+
+#define MOST_OF_A_FILE 16777216
+
+/* ---------- failures */
+
+/* Tells a failure, as loudly as `level` says. */
+void
+report(int level, const Failure *failure)
+{
+	ereport(level,
+			(errcode(failure->sqlstate),
+			 errmsg("%s", failure->message),
+			 failure->detail ? errdetail("%s", failure->detail) : 0,
+			 failure->is_of_folder ? errdetail_log("npss.folder is \"%s\".", npss_folder()) : 0,
+			 failure->hint ? errhint("%s", failure->hint) : 0));
+}
+
+bool
+fail(Failure *failure, int sqlstate, char *message, char *detail, char *hint)
+{
+	failure->sqlstate = sqlstate;
+	failure->message = message;
+	failure->detail = detail;
+	failure->hint = hint;
+	failure->is_of_folder = false;
+	return false;
+}
+
+/* A failure that lies in npss.folder. */
+static bool
+fail_in_folder(Failure *failure, int sqlstate, char *message, char *hint)
+{
+	fail(failure, sqlstate, message, NULL, hint);
+	failure->is_of_folder = true;
+	return false;
+}
+
+/* ---------- the folder */
+
+bool
+is_label(const char *label)
+{
+	size_t		length = strspn(label, "0123456789abcdefghijklmnopqrstuvwxyzABCDEFGHIJKLMNOPQRSTUVWXYZ._-");
+
+	return length > 0 && length < LABEL_SIZE && label[length] == '\0' && label[0] != '.';
+}
+
+bool
+has_folder(Failure *failure)
+{
+	if (npss_folder()[0] != '\0')
+		return true;
+	return fail(failure, ERRCODE_OBJECT_NOT_IN_PREREQUISITE_STATE, "npss.folder is not set", NULL,
+				"A superuser sets npss.folder to a folder that has one folder for each Unicode version.");
+}
+
+/* The labels of the folder's folders, in no order. */
+List *
+labels_in_folder(Failure *failure)
+{
+	List	   *labels = NIL;
+	struct dirent *entry;
+	DIR		   *dir;
+
+	if (!has_folder(failure))
+		return NIL;
+	dir = AllocateDir(npss_folder());
+	while (dir != NULL && (entry = ReadDirExtended(dir, npss_folder(), LOG)) != NULL)
+		if (is_label(entry->d_name))
+			labels = lappend(labels, pstrdup(entry->d_name));
+	if (dir != NULL)
+		FreeDir(dir);
+	if (labels == NIL)
+		fail_in_folder(failure, ERRCODE_OBJECT_NOT_IN_PREREQUISITE_STATE, "npss.folder has no version",
+					   "Put UnicodeData.txt and CompositionExclusions.txt into a folder of it that is named for the version, such as 15.0.");
+	return labels;
+}
+
+/* ---------- the two files */
+
+/* Reads a file of a version into palloc'd memory.  A pipe or a device is not waited for. */
+static bool
+read_file(const char *label, const char *name, Bytes *bytes, Failure *failure)
+{
+	char	   *path = psprintf("%s/%s/%s", npss_folder(), label, name);
+	int			file = OpenTransientFile(path, O_RDONLY | O_NONBLOCK | PG_BINARY);
+	struct stat about;
+	ssize_t		got = 1;
+	uint8	   *room;
+
+	bytes->length = 0;
+	if (file < 0)
+	{
+		int			sqlstate = errno == EACCES || errno == EPERM ? ERRCODE_INSUFFICIENT_PRIVILEGE : ERRCODE_UNDEFINED_FILE;
+		char	   *message = psprintf("npss: could not open file \"%s/%s\" of npss.folder: %m", label, name);
+
+		return fail_in_folder(failure, sqlstate, message,
+							  psprintf("Put UnicodeData.txt and CompositionExclusions.txt into a folder of npss.folder that is "
+									   "named \"%s\".", label));
+	}
+	if (fstat(file, &about) != 0 || !S_ISREG(about.st_mode) || about.st_size > MOST_OF_A_FILE)
+	{
+		CloseTransientFile(file);
+		return fail_in_folder(failure, ERRCODE_CONFIG_FILE_ERROR,
+							  psprintf("npss: \"%s/%s\" of npss.folder is not a file of at most %d bytes", label, name, MOST_OF_A_FILE), NULL);
+	}
+	bytes->at = room = palloc(about.st_size + 1);
+	while (bytes->length < (size_t) about.st_size && got > 0)
+	{
+		got = read(file, room + bytes->length, about.st_size - bytes->length);
+		bytes->length += got > 0 ? got : 0;
+	}
+	CloseTransientFile(file);
+	if (bytes->length != (size_t) about.st_size)
+		return fail_in_folder(failure, ERRCODE_IO_ERROR, psprintf("npss: could not read file \"%s/%s\" of npss.folder", label, name), NULL);
+	return true;
+}
+
+/* Reads the two files of a version into palloc'd memory. */
+bool
+read_files(const char *label, Bytes *data, Bytes *exclusions, Failure *failure)
+{
+	return read_file(label, "UnicodeData.txt", data, failure) && read_file(label, "CompositionExclusions.txt", exclusions, failure);
+}
+
+/*
+ * The digest of the two files: SHA-256 of the length of the first, eight bytes from the lowest, the first, the second.  It is
+ * made by the function that SQL has, which all versions of PostgreSQL have alike.
+ */
+void
+make_digest(char *digest, const Bytes *data, const Bytes *exclusions)
+{
+	bytea	   *all = palloc(VARHDRSZ + 8 + data->length + exclusions->length);
+	uint8	   *at = (uint8 *) VARDATA(all);
+	ResourceOwner before = CurrentResourceOwner;
+	bytea	   *made;
+
+	SET_VARSIZE(all, VARHDRSZ + 8 + data->length + exclusions->length);
+	for (int i = 0; i < 8; i++)
+		*at++ = (uint8) ((uint64) data->length >> (8 * i));
+	memcpy(at, data->at, data->length);
+	memcpy(at + data->length, exclusions->at, exclusions->length);
+	if (before == NULL)			/* in the postmaster, where it would crash */
+		CurrentResourceOwner = ResourceOwnerCreate(NULL, "npss");
+	made = DatumGetByteaPP(DirectFunctionCall1(sha256_bytea, PointerGetDatum(all)));
+	if (before == NULL)
+	{
+		ResourceOwner own = CurrentResourceOwner;
+
+		CurrentResourceOwner = NULL;
+		ResourceOwnerDelete(own);
+	}
+	Assert(VARSIZE_ANY_EXHDR(made) == (DIGEST_SIZE - 1) / 2);
+	hex_encode(VARDATA_ANY(made), (DIGEST_SIZE - 1) / 2, digest);
+	digest[DIGEST_SIZE - 1] = '\0';
+	pfree(all);
+}

@@ -1,0 +1,100 @@
+/* Attached databases. Keys in them are made by the main database's version, so none is written that records another one. */
+#include "npss_sqlite.h"
+
+#include <string.h>
+
+SQLITE_EXTENSION_INIT3
+
+/* The first attached database, from a number on, that the present transaction writes; NULL where there is none, and before
+ * SQLite 3.39, which doesn't tell. */
+static const char *written_from(sqlite3 *db, int *number) {
+#if SQLITE_VERSION_NUMBER >= 3039000
+    const char *name;
+    if (sqlite3_libversion_number() < 3039000) return NULL;
+    for (; (name = sqlite3_db_name(db, *number)); ++*number) {
+        if (transaction_of(db, name) == SQLITE_TXN_WRITE) return name;
+    }
+#endif
+    (void)db, (void)number;
+    return NULL;
+}
+
+/* What a statement over an attached database tells, whose name stands in it as `%w`: the status, as ask_number. */
+static int ask_attached(sqlite3 *db, const char *form, const char *name, sqlite3_int64 *told) {
+    char *text = sqlite3_mprintf(form, name);
+    int code = text ? ask_number(db, text, told) : SQLITE_NOMEM;
+    sqlite3_free(text);
+    return code;
+}
+
+/* Sees to it that an attached database records no version, or that of the main database; 0 where an error is set. */
+static int fits(sqlite3_context *call, connection *self, const char *name) {
+    sqlite3_int64 told = 0;
+    int code = ask_attached(self->db, "SELECT 1 FROM \"%w\".npss_record", name, &told);
+    if (code == SQLITE_ERROR || code == SQLITE_DONE) return 1; /* there is no such table, or it is empty */
+    if (code == SQLITE_ROW && self->is_recorded) {
+        told = 0;
+        code = ask_attached(self->db, "SELECT a.data = b.data AND a.exclusions = b.exclusions FROM main.npss_record AS a, "
+                                      "\"%w\".npss_record AS b", name, &told);
+        if (code == SQLITE_ROW && told) return 1;
+    }
+    if (code != SQLITE_ROW) return fail_by_database(call);
+    return fail(call, sqlite3_mprintf("npss: the attached database %Q records another version of Unicode than the main one, which makes "
+                                      "its keys: write it through a connection of its own", name));
+}
+
+/* By what an attached database is known again: its file. One in memory is known by its name, and only within a transaction,
+ * which nobody detaches it from. NULL where it isn't known again. */
+static const char *mark_of(sqlite3 *db, const char *name) {
+    const char *file = sqlite3_db_filename(db, name);
+    if (file && *file) return file;
+    return sqlite3_get_autocommit(db) ? NULL : name;
+}
+
+/* Remembers that an attached database fits as it is. */
+static void remember(connection *self, const char *name, int number) {
+    const char *mark = mark_of(self->db, name);
+    fitting *slot = &self->attached[number];
+    sqlite3_free(slot->mark);
+    slot->mark = mark ? sqlite3_mprintf("%s", mark) : NULL;
+    slot->data_version = data_version(self->db, name);
+    slot->others = slot->schema = -1;
+    ask_attached(self->db, "PRAGMA \"%w\".data_version", name, &slot->others);
+    ask_attached(self->db, "PRAGMA \"%w\".schema_version", name, &slot->schema);
+}
+
+/* Whether an attached database that was found to fit is as it was, or was written by this connection alone. */
+static int is_remembered(connection *self, const char *name, int number) {
+    const char *mark = mark_of(self->db, name);
+    fitting *slot = &self->attached[number];
+    sqlite3_int64 others = -2, schema = -2;
+    unsigned now = data_version(self->db, name);
+    if (!slot->mark || !mark || strcmp(slot->mark, mark)) return 0;
+    if (now != slot->data_version) {
+        if (mark == name) return 0; /* another one of that name may be in its place */
+        ask_attached(self->db, "PRAGMA \"%w\".data_version", name, &others);
+        ask_attached(self->db, "PRAGMA \"%w\".schema_version", name, &schema);
+        if (others != slot->others || schema != slot->schema) return 0;
+        slot->data_version = now;
+    }
+    return 1;
+}
+
+void forget_attached(connection *self) {
+    for (int number = 0; number < MOST_ATTACHED; number++) {
+        sqlite3_free(self->attached[number].mark);
+        self->attached[number].mark = NULL;
+    }
+}
+
+/* Sees to it that no attached database is written whose record is another one than the main database's; 0 where an error is
+ * set. */
+int fits_attached(sqlite3_context *call, connection *self) {
+    const char *name;
+    for (int number = 2; (name = written_from(self->db, &number)); number++) {
+        if (number < MOST_ATTACHED && is_remembered(self, name, number)) continue;
+        if (!fits(call, self, name)) return 0;
+        if (number < MOST_ATTACHED) remember(self, name, number);
+    }
+    return 1;
+}

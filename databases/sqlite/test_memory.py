@@ -1,0 +1,67 @@
+"""Memory that runs out, and what is left open."""
+
+import shutil
+import subprocess
+import sys
+import unittest
+from pathlib import Path
+
+from cases import EXTENSION, MARKED, MIDDLE, NEW, OLD, Case
+
+
+class Memory(Case):
+    def test_nothing_is_left_of_what_failed(self):
+        base = self.with_names(NEW)
+        before = 0
+        for _ in range(2):
+            for _ in range(8):
+                self.refused("do not extend", base, "SELECT npss_raise(?)", OLD)
+                self.assertEqual(self.asked(base, "npss_audit(?)", MIDDLE), "Lost 0CF3")
+                self.assertIsNone(self.asked(base, "npss_try_key(?)", "\ufdfa" * 20_000 + "\U000e0080"))
+                self.assertEqual(self.asked(base, "length(npss_nfkd(?))", "\ufdfa" * 20_000), 360_000)
+                beside = self.connect()
+                self.assertEqual(self.asked(beside, "npss_key('a')"), "a")
+                beside.close()
+            now = int(Path("/proc/self/statm").read_text().split()[1]) * 4096
+            before, grown = now, now - before
+        # The tables of a version have some 3 MB, and its files 2 MB.
+        self.assertLess(grown, 3_000_000)
+
+    def test_memory_that_runs_out_is_told(self):
+        # In a process of its own, whose memory is bounded behind its start.
+        code = f"""
+import resource, sqlite3, sys
+base = sqlite3.connect({self.path!r}); base.enable_load_extension(True); base.load_extension({EXTENSION!r})
+base.execute("SELECT npss_raise(?)", ({NEW!r},))
+used = int(open("/proc/self/statm").read().split()[0]) * 4096
+text = "\\u1ead" * 2_000_000
+resource.setrlimit(resource.RLIMIT_AS, (used + int(sys.argv[1]),) * 2)
+try:
+    print(len(base.execute("SELECT npss_nfd(?)", (text,)).fetchone()[0]))
+except (sqlite3.Error, MemoryError) as error:
+    print(type(error).__name__)
+print(base.execute("SELECT npss_nfc('a')").fetchone()[0])
+"""
+        for room in range(8_000_000, 90_000_000, 6_000_000):
+            ran = subprocess.run([sys.executable, "-c", code, str(room)], stdout=subprocess.PIPE, stderr=subprocess.PIPE, check=False)
+            self.assertEqual(ran.returncode, 0, ran.stderr)
+            self.assertIn(ran.stdout.split()[0], (b"6000000", b"MemoryError", b"OperationalError"))
+            self.assertEqual(ran.stdout.split()[1], b"a")
+
+    @unittest.skipUnless(shutil.which("valgrind"), "valgrind is not here")
+    def test_nothing_is_touched_out_of_bounds(self):
+        # Results around the room, and around each remainder of 8 above it, since memory is handed out in eights.
+        lengths = [*range(4094, 4108), *range(20_000, 20_009)]
+        statements = [f"SELECT npss_raise('{OLD}');", *(f"SELECT length(npss_nfc(printf('%.*c', {length - 2}, 'x') || '\u00eb'));" for length in lengths),
+                      "SELECT npss_nfd('\u1ead'), npss_try_key('\u1df9'), npss_is_normalized('e\u0308'), npss_equivalent('a', '\u1ead', 'nfkd');",
+                      f"SELECT npss_audit('{MIDDLE}');", f"SELECT npss_raise('{NEW}');", f"SELECT npss_raise('{OLD}');", "SELECT npss_raise('/none');",
+                      f"ATTACH '{self.path}' AS other;", "CREATE TABLE other.npss_record (data, exclusions);", "INSERT INTO other.npss_record VALUES (x'00', x'00');",
+                      "CREATE TABLE other.account (key TEXT);", "INSERT INTO other.account VALUES (npss_nfc('\u1ead'));", "DELETE FROM other.npss_record;",
+                      "INSERT INTO other.account VALUES (npss_nfc('\u1ead'));"]
+        words = ["valgrind", "-q", "--leak-check=full", "--show-leak-kinds=definite", "--errors-for-leak-kinds=definite", "--error-exitcode=9",
+                 "sqlite3", "-cmd", f".load {EXTENSION}", ":memory:"]
+        ran = subprocess.run(words, input="\n".join(statements), stdout=subprocess.PIPE, stderr=subprocess.PIPE, text=True, check=False)
+        self.assertNotEqual(ran.returncode, 9, ran.stderr)
+        self.assertNotIn("==", ran.stderr)
+        self.assertEqual(ran.stdout.split()[1:len(lengths) + 1], [str(length - 1) for length in lengths])
+        self.assertIn("records another version", ran.stderr)
