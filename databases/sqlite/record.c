@@ -64,9 +64,10 @@ static state state_now(sqlite3 *db) {
 
 /* ---- the tables in use */
 
-/* Takes tables into use in place of those that there are; 0 where an error is set. */
+/* Takes tables into use in place of those that there are; 0 where an error is set, and then none are in use. */
 int use(sqlite3_context *call, connection *self, npss_handle *tables, int is_recorded) {
     npss_answer a = npss_share(tables, &self->tables);
+    if (a.status != NPSS_DONE) npss_close(&self->tables);
     self->assigned = (sqlite3_int64)npss_count(tables).length;
     self->is_recorded = is_recorded;
     self->number++;
