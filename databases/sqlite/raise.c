@@ -54,8 +54,11 @@ void do_open(sqlite3_context *call, int count, sqlite3_value **given) {
         fail_by_database(call);
     } else if (files_of(call, count, given, &held) && opened(call, &fresh, &held) &&
                (!self->own.is_open || extends(call, &self->own, &fresh))) {
-        npss_share(&fresh, &self->own);
-        if (use(call, self, &fresh, 0)) sqlite3_result_int64(call, self->assigned);
+        npss_answer a = npss_share(&fresh, &self->own);
+        if (a.status != NPSS_DONE)
+            refuse(call, a);
+        else if (use(call, self, &fresh, 0))
+            sqlite3_result_int64(call, self->assigned);
     }
     npss_close(&fresh);
     free_files(&held);
