@@ -103,7 +103,7 @@ pub fn caseless_key<T: NormTable>(
     }
 }
 
-/// Whether two texts match caselessly: canonically (The Unicode Standard, D145), or where `compat` compatibly (D146). Code
+/// Whether the two texts match caselessly: canonically (The Unicode Standard, D145), or where `compat` compatibly (D146). Code
 /// points that are not assigned are taken too.
 ///
 /// # Errors
@@ -114,12 +114,13 @@ pub fn caseless_match<T: NormTable>(
     table: &T,
     foldings: &Foldings,
     compat: bool,
-    left: &str,
-    right: &str,
+    texts: (&str, &str),
 ) -> Result<bool, Memory>
-    ensures { IfOk result (λ b. IsTrue b ↔ MatchCaselessly (folded_by (T.model table.now) foldings.now) compat (chars left.now) (chars right.now)) }
+    ensures { IfOk result (λ b. IsTrue b ↔
+        MatchCaselessly (folded_by (T.model table.now) foldings.now) compat (chars texts.entry.0.now) (chars texts.entry.1.now)) }
 {
     table.meets_conditions();
+    let (left, right) = texts;
     let one = folded(alloc, table, foldings, compat, left)?;
     let other = folded(alloc, table, foldings, compat, right)?;
     equivalent(alloc, table, compat, one.as_str(), other.as_str())

@@ -62,7 +62,7 @@ fn want_matches<T: NormTable>(
     rows: &[MatchRow],
 ) -> Result<(), Fail> {
     for row in rows {
-        let same = caseless_match(alloc, table, foldings, row.0, row.1, row.2)?;
+        let same = caseless_match(alloc, table, foldings, row.0, (row.1, row.2))?;
         want(same == row.3, row.1)?;
     }
     Ok(())

@@ -7,7 +7,7 @@ use Rattle.np_caseless.proofs.keys.caseless_match.Goals as goal
 pub returns : goal.returns
 returns g c =
     let v = folded_by (g.T.NormTable.model c.args.table.now) c.args.foldings.now in
-    match_told v c.meets_conditions.ensures c.args.compat (chars c.args.left.now) (chars c.args.right.now) (chars c.as_str.result.now) (chars c.as_str-2.result.now) c.equivalent.result
-    (subst (λ (t : List ℕ). IsFolded v c.args.compat (chars c.args.left.now) (chars t)) (sym c.as_str.ensures.value) c.in_ok-one.ensures)
-    (subst (λ (t : List ℕ). IsFolded v c.args.compat (chars c.args.right.now) (chars t)) (sym c.as_str-2.ensures.value) c.in_ok-other.ensures)
+    match_told v c.meets_conditions.ensures c.args.compat (chars c.args.texts.0.now) (chars c.args.texts.1.now) (chars c.as_str.result.now) (chars c.as_str-2.result.now) c.equivalent.result
+    (subst (λ (t : List ℕ). IsFolded v c.args.compat (chars c.args.texts.0.now) (chars t)) (sym c.as_str.ensures.value) c.in_ok-one.ensures)
+    (subst (λ (t : List ℕ). IsFolded v c.args.compat (chars c.args.texts.1.now) (chars t)) (sym c.as_str-2.ensures.value) c.in_ok-other.ensures)
     c.equivalent.ensures
