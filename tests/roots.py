@@ -8,7 +8,7 @@ import subprocess
 from pathlib import Path
 
 # What stands in the root before: what the packages depend on, and what a first key wants. No compiler.
-PACKAGES = ("postgresql-15", "python3", "python3-starlette", "python3-uvicorn", "python3-venv", "sqlite3", "unicode-data")
+PACKAGES = ("postgresql-15", "python3", "python3-prometheus-client", "python3-starlette", "python3-uvicorn", "python3-venv", "sqlite3", "unicode-data")
 SOURCES = Path("/etc/apt/sources.list.d/debian.sources")
 PLAIN_SOURCES = Path("/etc/apt/sources.list")
 # A file that is written with no care for a crash; no translations.
