@@ -396,6 +396,7 @@ class Nodes(unittest.TestCase):
 
     def test_messages(self):
         self.assertIsNone(self.node.message("a\u0302"))
+        self.assertIsNone(self.node.message(""))
         self.node.accept("a\u0302")
         told = self.node.message("a\u0302")
         self.assertEqual(told, message(b"C", "a\u0302", "\u00e2"))
@@ -427,6 +428,7 @@ class Nodes(unittest.TestCase):
             self.node.accept(string)
         self.assertTrue(self.node.forget("a"))
         self.assertFalse(self.node.forget("a"))
+        self.assertIsNone(self.node.message("a"))
         self.assertEqual([entry.string for entry in self.node], ["A", "i"])
         self.node.accept("a")
         self.assertEqual([entry.string for entry in self.node], ["A", "i", "a"])

@@ -56,6 +56,7 @@ fn strings_are_kept_beside_their_keys() {
     assert_eq!(node.accept("A"), Ok(Accepted::Kept));
     assert_eq!(node.same("A", "\u{e2}"), Some(false));
     assert!(node.forget("a\u{302}") && !node.forget("a\u{302}"));
+    assert_eq!(node.message("a\u{302}"), Ok(None));
     assert_eq!(
         pairs(&node),
         [("\u{e2}".into(), "\u{e2}".into()), ("A".into(), "A".into())]
@@ -98,6 +99,7 @@ fn messages_reach_other_nodes() {
     let mut home = Node::new(&v1, Form::Nfc, 9).unwrap();
     let mut away = Node::new(&v2, Form::Nfc, 9).unwrap();
     assert_eq!(home.message("a\u{302}"), Ok(None));
+    assert_eq!(home.message(""), Ok(None));
     home.accept("a\u{302}").unwrap();
     let told = home.message("a\u{302}").unwrap().unwrap();
     assert_eq!(
