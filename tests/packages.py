@@ -36,7 +36,7 @@ WANTED = ("lintian", "mmdebstrap", "pkg-config")
 DEBIAN = ("npss", "libnpss0", "libnpss-dev", "python3-npss", "postgresql-15-npss", "sqlite3-npss", "npss-registry")
 PROGRAMS = ("npss", "npss_lines")
 # What asks for the toolchain, and how a script does that.
-ASKING = {"build-c", "npss", "prove", "test", "bench/gate", "tests/wrong_bodies.py"}
+ASKING = {"build-c", "npss", "prove", "test", "bench/gate", "tests/edits.py", "tests/wrong_bodies.py"}
 ASKS = re.compile(r"which\([\"']rt[\"']|\[[\"']rt[\"']|command -v rt\b|for command in rt\b|^\s*(?:\w+=\S* )*rt [a-z]", re.MULTILINE)
 # A text, and its keys under NFC and NFKC.
 TEXT, KEY, COMPATIBLE = "a\u0302\u0323\ufb01", "\u1ead\ufb01", "\u1eadfi"
