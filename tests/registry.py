@@ -54,6 +54,8 @@ def main():
     parser.add_argument("prefix", nargs="?", type=Path, default=ROOT / "out" / "c")
     parser.add_argument("--seconds", type=float, default=30)
     words = parser.parse_args()
+    # Its tests have folders of their own.
+    words.program = words.program.resolve()
     tally = Tally()
     if not (words.prefix / "lib" / "libnpss.a").exists() or not shutil.which("cc"):
         print("skipped: the registry: the library for C isn't built, or there is no C compiler")
