@@ -62,7 +62,7 @@ def ran(words, **more):
 def check_dask(tally, room, site, files, wanted):
     """The example by workers of Dask."""
     block = max((room / "names").stat().st_size // 24, 1)
-    environment = {**os.environ, "PYTHONPATH": f"{site}:{ROOT / 'examples'}"}
+    environment = {**os.environ, "PYTHONPATH": f"{site}:{ROOT / 'examples'}", "DASK_TEMPORARY_DIRECTORY": str(room)}
     for workers in (1, 2, 4):
         since = time.monotonic()
         words = [SYSTEM_PYTHON, ROOT / "examples" / "on_dask.py", "--workers", workers, "--block", block, "nfkc", *files, room / "names", room / "dask"]
