@@ -100,7 +100,7 @@ module _ (v : VersionData) where
             omega (arith, ap length (full-mapped v false n c mapped), ap length more, weight-more (full v false n) (full v true n) (full_more n) (parts v false c))
       ]
 
-  full_of_more : (c : ℕ) → length (full_of v false c) ≤ length (full_of v true c)
+  pub full_of_more : (c : ℕ) → length (full_of v false c) ≤ length (full_of v true c)
   unfolding full_of
   full_of_more c = full_more 32 c
 

@@ -1,5 +1,11 @@
+pub mod ConditionLemmas
+pub mod FineLemmas
+pub mod FirstLemmas
 pub mod FoldLemmas
 pub mod KeyLemmas
+pub mod LeastLemmas
 pub mod LengthLemmas
+pub mod ListedLemmas
 pub mod QuietLemmas
 pub mod StabilityLemmas
+pub mod UnfoldedLemmas

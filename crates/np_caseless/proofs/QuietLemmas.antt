@@ -58,7 +58,7 @@ final_step v c true e h =
     let none : is_empty (decomposition_mapping v c) ≡ true = ap is_empty (sym (cond-true _ (decomposition_mapping v c) [] e)) ∙ h in
     empty_either (counts false (decomposition_kind v c)) (decomposition_mapping v c) none
 
-final_weaker : (v : VersionData) (xs : List ℕ) → list_all (is_final v true) xs ≡ true → list_all (is_final v false) xs ≡ true
+pub final_weaker : (v : VersionData) (xs : List ℕ) → list_all (is_final v true) xs ≡ true → list_all (is_final v false) xs ≡ true
 final_weaker v [] h = refl
 final_weaker v (x ∷ xs) h =
     let both = and_parts (is_final v true x) (list_all (is_final v true) xs) h in

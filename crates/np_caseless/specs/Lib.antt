@@ -1,6 +1,9 @@
+pub mod Breaks
 pub mod Caseless
+pub mod ConditionFaults
 pub mod Conditions
 pub mod Extension
+pub mod Faults
 pub mod Folded
 pub mod Laws
 pub mod inside

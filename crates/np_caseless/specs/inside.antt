@@ -1,1 +1,5 @@
+pub mod FirstFaults
+pub mod FoldingChanges
 pub mod Keys
+pub mod Leasts
+pub mod Unfolded

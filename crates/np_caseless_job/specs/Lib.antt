@@ -1,0 +1,11 @@
+pub mod CaselessAudits
+pub mod CaselessComparisons
+pub mod CaselessKeys
+pub mod CaselessKeysUnder
+pub mod CaselessProgram
+pub mod FoldedTexts
+pub mod FoldedVersions
+pub mod Pairs
+pub mod Tellings
+pub mod Usage
+pub mod inside

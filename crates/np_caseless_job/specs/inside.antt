@@ -1,0 +1,4 @@
+pub mod FoldingSteps
+pub mod Groups
+pub mod PairSteps
+pub mod UnderSteps

@@ -1,0 +1,25 @@
+//! The jobs of the program `npss_caseless`: caseless keys and matches over the three files of a version, and what its words
+//! ask for.
+#![tactic(auto)]
+
+mod audit;
+mod compare;
+mod faults;
+mod files;
+mod key;
+mod key_under;
+mod lines;
+mod pairs;
+mod program;
+mod texts;
+mod usage;
+mod versions;
+
+pub use compare::CompareJob;
+pub use faults::{CaselessFault, FoldedFault};
+pub use files::{OpenFiles, open_folded};
+pub use key::KeyJob;
+pub use program::{NpssCaseless, run_words};
+pub use texts::{FoldedMaker, run_over_folded};
+pub use usage::caseless_usage_text;
+pub use versions::read_folded;

@@ -1,0 +1,135 @@
+//! The program `npss_caseless`: what it does for its words, over any opener of files and any streams.
+ghost use Rattle.std.specs.Prelude.{◌≡◌, ◌++◌, map, string_bytes, Some, None, IfOk, IfErr};
+ghost use Rattle.np_caseless_job.specs.CaselessAudits.{FoldedAuditEnds};
+ghost use Rattle.np_caseless_job.specs.CaselessKeysUnder.{CaselessUnderEnds, FoldedUnderReaders};
+ghost use Rattle.np_caseless_job.specs.CaselessProgram.{EndsOverFiles, ProgramEnds};
+ghost use Rattle.np_caseless_job.specs.Pairs.{ArePair, PairReaders};
+ghost use Rattle.np_caseless_job.specs.Usage.{caseless_usage};
+ghost use Rattle.np_jobs.specs.Opening.{IsUnopened};
+ghost use Rattle.np_jobs.specs.Streams.{stream_of};
+ghost use Rattle.np_words.specs.CaselessWords.{caseless_asked_by, caseless_asked_of, folded_names_of};
+
+use crate::audit::audit_job;
+use crate::compare::CompareJob;
+use crate::key::KeyJob;
+use crate::key_under::key_under_job;
+use crate::pairs::open_pair;
+use crate::texts::run_over_folded;
+use crate::usage::caseless_usage_text;
+use np_code_points::Form;
+use np_jobs::{Opener, Program, Resources, Streams, run_program, show_usage};
+use np_words::{CaselessJob, FoldedFiles, WordsFault, parse_caseless};
+use std::alloc::Global;
+use std::io::{Read, Write};
+
+/// Runs `audit`.
+///
+/// # Errors
+///
+/// The status that was told, where a file can't be opened.
+fn run_audit<P: Opener, I: Read, O: Write, E: Write>(
+    with: &Resources<'_, P>,
+    old: &FoldedFiles,
+    new: &FoldedFiles,
+    streams: &mut Streams<I, O, E>,
+) -> Result<u8, u8>
+    ensures done { IfOk result (λ status. (readers : PairReaders) × ArePair (P.gives with.now.opener.now) old.now new.now readers
+        × FoldedAuditEnds readers (stream_of O.contents streams.old.output streams.new.output) (stream_of E.contents streams.old.error streams.new.error) status) }
+    ensures unopened { IfErr result (IsUnopened (P.gives with.now.opener.now) (P.lacks with.now.opener.now) (folded_names_of old.now ++ folded_names_of new.now)
+        (stream_of E.contents streams.old.error streams.new.error)) }
+    ensures unread { streams.new.input ≡ streams.old.input }
+    ensures unwritten { IfErr result (λ status. streams.new.output ≡ streams.old.output) }
+{
+    let mut pair = open_pair(with.opener, with.alloc, &mut streams.error, old, new)?;
+    Ok(audit_job(with.alloc, &mut pair, streams))
+}
+
+/// Runs `key` with `--check-under`.
+///
+/// # Errors
+///
+/// The status that was told, where a file can't be opened.
+fn run_key_under<P: Opener, I: Read, O: Write, E: Write>(
+    with: &Resources<'_, P>,
+    form: Form,
+    old: &FoldedFiles,
+    new: &FoldedFiles,
+    streams: &mut Streams<I, O, E>,
+) -> Result<u8, u8>
+    ensures done { IfOk result (λ status. (readers : FoldedUnderReaders) × ArePair (P.gives with.now.opener.now) old.now new.now readers.pair
+        × (readers.input ≡ stream_of I.remaining streams.old.input streams.new.input)
+        × CaselessUnderEnds form readers (stream_of O.contents streams.old.output streams.new.output)
+        (stream_of E.contents streams.old.error streams.new.error) status) }
+    ensures unopened { IfErr result (IsUnopened (P.gives with.now.opener.now) (P.lacks with.now.opener.now) (folded_names_of old.now ++ folded_names_of new.now)
+        (stream_of E.contents streams.old.error streams.new.error)) }
+    ensures unread { IfErr result (λ status. streams.new.input ≡ streams.old.input) }
+    ensures unwritten { IfErr result (λ status. streams.new.output ≡ streams.old.output) }
+{
+    let mut pair = open_pair(with.opener, with.alloc, &mut streams.error, old, new)?;
+    Ok(key_under_job(with.alloc, form, &mut pair, streams))
+}
+
+/// The program `npss_caseless`.
+pub struct NpssCaseless;
+
+impl Program for NpssCaseless {
+    type Job = CaselessJob;
+
+    ghost asks = { λ words job. caseless_asked_by words ≡ Some (caseless_asked_of job) };
+
+    ghost asks_nothing = { λ words. caseless_asked_by words ≡ None };
+
+    ghost files_of = { λ job. (caseless_asked_of job).files };
+
+    ghost usage = { caseless_usage };
+
+    ghost ends = { EndsOverFiles };
+
+    ghost can_run = { λ job. Unit {0} };
+
+    fn usage() -> &'static str {
+        caseless_usage_text()
+    }
+
+    fn parse(alloc: Global, words: &[String]) -> Result<CaselessJob, WordsFault> {
+        parse_caseless(alloc, words)
+    }
+
+    fn run<P: Opener, I: Read, O: Write, E: Write>(
+        with: &Resources<'_, P>,
+        job: &CaselessJob,
+        streams: &mut Streams<I, O, E>,
+    ) -> Result<u8, u8> {
+        match job {
+            CaselessJob::Help => Ok(show_usage(
+                with.alloc,
+                &mut streams.output,
+                &mut streams.error,
+                caseless_usage_text(),
+            )),
+            CaselessJob::Key { form, files } => {
+                run_over_folded(with, &KeyJob { form: *form }, files, streams)
+            }
+            CaselessJob::KeyUnder { form, old, new } => {
+                run_key_under(with, *form, old, new, streams)
+            }
+            CaselessJob::Compare { form, files } => {
+                run_over_folded(with, &CompareJob { form: *form }, files, streams)
+            }
+            CaselessJob::Audit { old, new } => run_audit(with, old, new, streams),
+        }
+    }
+}
+
+/// Does what the words, without the program's name, ask for, and answers the status.
+pub fn run_words<P: Opener, I: Read, O: Write, E: Write>(
+    with: &Resources<'_, P>,
+    words: &[String],
+    streams: &mut Streams<I, O, E>,
+) -> u8
+    ensures { ProgramEnds (P.gives with.now.opener.now) (P.lacks with.now.opener.now) (map string_bytes words.now)
+        (stream_of I.remaining streams.old.input streams.new.input) (stream_of O.contents streams.old.output streams.new.output)
+        (stream_of E.contents streams.old.error streams.new.error) result }
+{
+    run_program::<NpssCaseless, P, I, O, E>(with, words, streams)
+}
