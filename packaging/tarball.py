@@ -8,7 +8,7 @@ from pathlib import Path
 
 ROOT = Path(__file__).resolve().parent.parent
 PAGES = ("README.md", "CHANGELOG.md", "docs/INSTALL.md", "docs/BULK.md", "docs/DOORS.md", "docs/FORMATS.md")
-COMPLETIONS = ("npss", "npss_lines")
+COMPLETIONS = ("npss", "npss_lines", "npss_caseless")
 
 
 def contents(prefix, proved):

@@ -152,6 +152,19 @@ def check_lines_manual(tally):
             tally.check(f"docs/npss_lines.1: status {number}", f"\n{number}\n" in manual, "it is not there")
 
 
+def check_caseless_manual(tally):
+    """docs/FORMATS.md has the usage text of the stored run of npss_caseless, and its manual page has each line of it and each status."""
+    manual = plain((ROOT / "docs" / "npss_caseless.1").read_text(encoding="utf-8"))
+    formats = (ROOT / "docs" / "FORMATS.md").read_text(encoding="utf-8")
+    usage = (ROOT / "crates" / "npss_caseless" / "stdout").read_text(encoding="utf-8")
+    tally.check("docs/FORMATS.md has the usage text of npss_caseless", f"\n```\n{usage}```\n" in formats, "it has not")
+    for line in usage.splitlines():
+        words = line.removeprefix("usage:").strip()
+        tally.check(f"docs/npss_caseless.1 has: {words}", f"\n{words}\n" in manual, "it has not")
+    for number in range(7):
+        tally.check(f"docs/npss_caseless.1: status {number}", f"\n{number}\n" in manual.partition("EXIT STATUS")[2], "it is not there")
+
+
 def main():
     tally = Tally()
     check_model(tally)
@@ -167,6 +180,7 @@ def main():
     tally.check("there are fixtures", got, "fixtures/ has no file")
     check_manual(tally, usage)
     check_lines_manual(tally)
+    check_caseless_manual(tally)
     forged_images.check(tally)
     caseless_rows.check(tally, unescaped)
     check_example(tally)

@@ -34,7 +34,7 @@ import release as releases
 WANTED = ("lintian", "mmdebstrap", "pkg-config")
 # In the order of what depends on what.
 DEBIAN = ("npss", "libnpss0", "libnpss-dev", "python3-npss", "postgresql-15-npss", "sqlite3-npss", "npss-registry")
-PROGRAMS = ("npss", "npss_lines")
+PROGRAMS = ("npss", "npss_lines", "npss_caseless")
 # What asks for the toolchain, and how a script does that.
 ASKING = {"build-c", "npss", "prove", "test", "bench/gate", "tests/edits.py", "tests/wrong_bodies.py"}
 ASKS = re.compile(r"which\([\"']rt[\"']|\[[\"']rt[\"']|command -v rt\b|for command in rt\b|^\s*(?:\w+=\S* )*rt [a-z]", re.MULTILINE)
@@ -353,7 +353,7 @@ def check_databases(tally, root):
 def check_completion(tally, root):
     """What bash completes by what is installed."""
     for name, typed, wanted in (("npss", "npss k", "key"), ("npss", "npss key --form nfkc --c", "--check-under"),
-                                ("npss_lines", "npss_lines --form nfk", "nfkc nfkd"), ("npss-registry", "npss-registry cl", "claim")):
+                                ("npss_lines", "npss_lines --form nfk", "nfkc nfkd"), ("npss_caseless", "npss_caseless ke", "key"), ("npss-registry", "npss-registry cl", "claim")):
         words = " ".join(f"'{word}'" for word in typed.split())
         script = (f'source "$0"; COMP_WORDS=({words}); COMP_CWORD=$((${{#COMP_WORDS[@]}} - 1)); _{name.replace("-", "_")}; '
                   'echo "${COMPREPLY[@]}"')

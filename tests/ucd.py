@@ -11,6 +11,7 @@ from typing import NamedTuple
 
 DATA = "UnicodeData.txt"
 EXCLUSIONS = "CompositionExclusions.txt"
+FOLDING = "CaseFolding.txt"
 
 
 class Row(NamedTuple):
