@@ -76,6 +76,6 @@ abbrev pub IsFoldedFault : ℕ → FoldedReaders → FoldedFault → Type 0
 IsFoldedFault number readers fault =
     (Wraps Version (IsVersionFault number readers.version.data_file readers.version.exclusions_file) fault × IsUntouched readers.folding_file)
     ⊎ ((((v : VersionData) × WasBuilt readers.version.data_file readers.version.exclusions_file v)
-        × Wraps (Folding number) (WasFoldingRefused readers.folding_file) fault)
+    × Wraps (Folding number) (WasFoldingRefused readers.folding_file) fault)
     ⊎ ((v : FoldedVersion) × WasBuilt readers.version.data_file readers.version.exclusions_file v.version × HasFoldings readers.folding_file v.foldings
-        × Wraps (Condition number) (IsConditionFault readers.version.data_file v) fault))
+    × Wraps (Condition number) (IsConditionFault readers.version.data_file v) fault))

@@ -6,4 +6,5 @@ abbrev pub caseless_usage : List ℕ
 caseless_usage =
     codes "usage: npss_caseless key --form FORM DATA EXCL FOLD\n" ++
     (codes "       npss_caseless key --form FORM --check-under OLDDATA OLDEXCL OLDFOLD DATA EXCL FOLD\n" ++
-    (codes "       npss_caseless compare --form FORM DATA EXCL FOLD\n" ++ codes "       npss_caseless audit OLDDATA OLDEXCL OLDFOLD NEWDATA NEWEXCL NEWFOLD\n"))
+    (codes "       npss_caseless compare --form FORM DATA EXCL FOLD\n" ++
+    codes "       npss_caseless audit OLDDATA OLDEXCL OLDFOLD NEWDATA NEWEXCL NEWFOLD\n"))

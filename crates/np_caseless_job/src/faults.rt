@@ -2,7 +2,7 @@
 ghost use Rattle.std.specs.Prelude.{◌≡◌, false, IfOk, OnErr};
 ghost use Rattle.np_caseless_job.specs.Tellings.{caseless_telling, condition_status, folded_telling, folding_status};
 ghost use Rattle.np_caseless_job.specs.inside.Groups.{of_folded, of_text, of_version};
-ghost use Rattle.np_jobs.specs.inside.Groups.{line_bytes};
+ghost use Rattle.np_jobs.specs.Lines.{line_bytes};
 
 use crate::lines::caseless_line;
 use np_caseless::{ConditionFault, FoldedBreak};
@@ -17,13 +17,21 @@ use thiserror::Error;
 pub enum FoldedFault {
     /// The first two files make no version.
     #[error(transparent)]
-    Version { fault: VersionFault },
+    Version {
+        fault: VersionFault,
+    },
     /// CaseFolding.txt was not read, or has a fault.
     #[error("version {version} folding: {fault}")]
-    Folding { version: usize, fault: FoldingFault },
+    Folding {
+        version: usize,
+        fault: FoldingFault,
+    },
     /// The version has a fault with these foldings.
     #[error("version {version} folding: {fault}")]
-    Condition { version: usize, fault: ConditionFault },
+    Condition {
+        version: usize,
+        fault: ConditionFault,
+    },
 }
 
 /// Why a job is refused.

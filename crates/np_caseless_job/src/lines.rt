@@ -2,7 +2,7 @@
 ghost use Rattle.std.specs.Prelude.{◌≡◌, false, IfOk, OnErr};
 ghost use Rattle.np_caseless_job.specs.Tellings as tellings;
 ghost use Rattle.np_caseless_job.specs.Tellings.{caseless_telling, folded_telling};
-ghost use Rattle.np_jobs.specs.inside.Groups.{line_bytes};
+ghost use Rattle.np_jobs.specs.Lines.{line_bytes};
 
 use crate::faults::{CaselessFault, FoldedFault};
 use np_caseless::{ConditionFault, FoldedBreak};

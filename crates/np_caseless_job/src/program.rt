@@ -34,9 +34,10 @@ fn run_audit<P: Opener, I: Read, O: Write, E: Write>(
     streams: &mut Streams<I, O, E>,
 ) -> Result<u8, u8>
     ensures done { IfOk result (λ status. (readers : PairReaders) × ArePair (P.gives with.now.opener.now) old.now new.now readers
-        × FoldedAuditEnds readers (stream_of O.contents streams.old.output streams.new.output) (stream_of E.contents streams.old.error streams.new.error) status) }
-    ensures unopened { IfErr result (IsUnopened (P.gives with.now.opener.now) (P.lacks with.now.opener.now) (folded_names_of old.now ++ folded_names_of new.now)
-        (stream_of E.contents streams.old.error streams.new.error)) }
+        × FoldedAuditEnds readers (stream_of O.contents streams.old.output streams.new.output)
+        (stream_of E.contents streams.old.error streams.new.error) status) }
+    ensures unopened { IfErr result (IsUnopened (P.gives with.now.opener.now) (P.lacks with.now.opener.now)
+        (folded_names_of old.now ++ folded_names_of new.now) (stream_of E.contents streams.old.error streams.new.error)) }
     ensures unread { streams.new.input ≡ streams.old.input }
     ensures unwritten { IfErr result (λ status. streams.new.output ≡ streams.old.output) }
 {
@@ -60,8 +61,8 @@ fn run_key_under<P: Opener, I: Read, O: Write, E: Write>(
         × (readers.input ≡ stream_of I.remaining streams.old.input streams.new.input)
         × CaselessUnderEnds form readers (stream_of O.contents streams.old.output streams.new.output)
         (stream_of E.contents streams.old.error streams.new.error) status) }
-    ensures unopened { IfErr result (IsUnopened (P.gives with.now.opener.now) (P.lacks with.now.opener.now) (folded_names_of old.now ++ folded_names_of new.now)
-        (stream_of E.contents streams.old.error streams.new.error)) }
+    ensures unopened { IfErr result (IsUnopened (P.gives with.now.opener.now) (P.lacks with.now.opener.now)
+        (folded_names_of old.now ++ folded_names_of new.now) (stream_of E.contents streams.old.error streams.new.error)) }
     ensures unread { IfErr result (λ status. streams.new.input ≡ streams.old.input) }
     ensures unwritten { IfErr result (λ status. streams.new.output ≡ streams.old.output) }
 {

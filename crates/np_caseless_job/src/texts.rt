@@ -15,7 +15,9 @@ use crate::files::{OpenFiles, open_folded};
 use crate::versions::read_folded;
 use np_caseless::FoldedTable;
 use np_code_points::watched::Watched;
-use np_jobs::{JobTable, Made, MadeTable, Opener, Resources, Streams, TextFault, finish, read_text};
+use np_jobs::{
+    JobTable, Made, MadeTable, Opener, Resources, Streams, TextFault, finish, read_text,
+};
 use np_versions::NormTable;
 use np_words::FoldedFiles;
 use std::alloc::Global;

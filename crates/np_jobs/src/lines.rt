@@ -3,7 +3,7 @@ ghost use Rattle.std.specs.Prelude.{◌≡◌, ◌++◌, false, IfOk, OnErr, cod
 ghost use Rattle.np_code_points.specs.Codes.{code_digits};
 ghost use Rattle.np_jobs.specs.Tellings as tellings;
 ghost use Rattle.np_jobs.specs.Tellings.{replay_telling, telling_of, text_telling, version_telling};
-ghost use Rattle.np_jobs.specs.inside.Groups.{line_bytes};
+ghost use Rattle.np_jobs.specs.Lines.{line_bytes};
 
 use crate::faults::{JobFault, ReplayFault, TextFault, VersionFault};
 use crate::statuses::MEMORY;

@@ -1,7 +1,7 @@
 //! How a refusal is told, whatever job it is of.
 ghost use Rattle.std.specs.Prelude.{◌≡◌, false, IfOk, OnErr};
 ghost use Rattle.np_jobs.specs.Tellings.{Telling, telling_of};
-ghost use Rattle.np_jobs.specs.inside.Groups.{line_bytes};
+ghost use Rattle.np_jobs.specs.Lines.{line_bytes};
 
 use crate::faults::JobFault;
 use crate::lines::{Line, line_of};

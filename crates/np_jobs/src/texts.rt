@@ -37,10 +37,7 @@ pub trait TextMaker {
 }
 
 /// Reads the input whole.
-fn read_input<R: Read>(
-    alloc: Global,
-    input: &mut Watched<R>,
-) -> Result<Vec<u8>, TextFault>
+fn read_input<R: Read>(alloc: Global, input: &mut Watched<R>) -> Result<Vec<u8>, TextFault>
     ensures read { IfOk result (λ bytes. WasRead (stream_of R.remaining input.old input.new) bytes.items) }
     ensures refused { IfErr result (Wraps TextFault.Input (WasNotRead (stream_of R.remaining input.old input.new))) }
 {
