@@ -25,6 +25,7 @@ LARGE = 8_000_000
 # Nothing is written into the tree but crates/*/out and out/c.
 sys.dont_write_bytecode = True
 
+import costs
 import histories
 import ucd
 import versions
@@ -140,6 +141,9 @@ def check_c(tally, prefix, folder):
         if wanted("valgrind"):
             counted(tally, "fences under valgrind", ["valgrind", "-q", "--error-exitcode=9", "--soname-synonyms=somalloc=nouserintercepts",
                                                         program, *V1, *V2])
+    program = compiled(tally, prefix, folder, "costs")
+    if program and wanted("valgrind"):
+        costs.check_keys(tally, program, folder)
     program = compiled(tally, prefix, folder, "threads")
     if program:
         counted(tally, "threads", [program, *V1, KEYS])
