@@ -29,6 +29,8 @@ PAGES = {
     "docs/STANDARD.md": (None, None),
     "docs/FORMATS.md": (None, None),
     "docs/DEFINITIONS.md": (None, None),
+    "docs/README.md": (None, None),
+    "docs/GLOSSARY.md": (None, None),
 }
 # The headline's sentence stands as it is.
 KEPT = "from one chain"
