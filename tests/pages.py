@@ -29,6 +29,7 @@ PAGES = {
     "docs/STANDARD.md": (None, None),
     "docs/FORMATS.md": (None, None),
     "docs/DEFINITIONS.md": (None, None),
+    "docs/MOVING.md": (None, None),
     "docs/README.md": (None, None),
     "docs/GLOSSARY.md": (None, None),
 }
