@@ -518,7 +518,7 @@ class Habits(unittest.TestCase):
 
     def test_a_refusal_tells_which_text(self):
         with self.assertRaises(Unassigned) as caught:
-            self.tables.keys(["a", "", "ab\U0010ffff"])
+            self.tables.keys(["a", "", "aA\U0010ffff"])
         self.assertEqual((caught.exception.number, str(caught.exception)), (2, "10FFFF at character 2 (byte 2) of text 2 is not assigned"))
         self.assertEqual(str(self.tables.first_unassigned("\U0010ffff")), "10FFFF at character 0 (byte 0) is not assigned")
 
@@ -543,21 +543,21 @@ class Habits(unittest.TestCase):
     def test_a_node_that_changes_under_an_iterator(self):
         node = Node(self.tables)
         self.assertEqual(list(iter(node)), [])
-        for text in ("a", "b", MARKED):
+        for text in ("a", "A", MARKED):
             node.accept(text)
         other = Node(self.tables)
-        other.accept("c")
-        for change in (lambda: node.accept("d"), lambda: node.forget("a"), lambda: node.take(other.message("c"))):
+        other.accept("i")
+        for change in (lambda: node.accept("f"), lambda: node.forget("a"), lambda: node.take(other.message("i"))):
             entries = iter(node)
             next(entries)
             change()
             self.assertRaisesRegex(RuntimeError, "changed during iteration", next, entries)
         entries = iter(node)
-        for change in (lambda: node.accept("b"), lambda: node.forget("none"), lambda: node.upgrade(Tables.open(*V2)), lambda: node.message("b")):
+        for change in (lambda: node.accept("A"), lambda: node.forget("none"), lambda: node.upgrade(Tables.open(*V2)), lambda: node.message("A")):
             next(entries)
             change()
         self.assertEqual((list(entries), next(entries, None), list(reversed(node))), ([], None, node[::-1]))
-        self.assertEqual([entry.string for entry in node], ["b", MARKED, "d", "c"])
+        self.assertEqual([entry.string for entry in node], ["A", MARKED, "f", "i"])
         self.assertEqual((iter(node).__length_hint__(), len(list(iter(node)))), (4, 4))
 
 
