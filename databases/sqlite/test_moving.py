@@ -40,7 +40,7 @@ class Moving(Case):
         self.refused("is not assigned", base, "INSERT INTO account (name) VALUES (?)", chr(917632))
         look, plan = (text.strip().rstrip(";") for text in blocks()[1].split(";\n", 1))
         self.assertIn("SEARCH account USING INDEX account_key", str(base.execute(plan).fetchall()))
-        base.execute("INSERT INTO account (name) VALUES ('zoe\u0308')")
+        base.execute("INSERT INTO account (name) VALUES ('zoE\u0308')")
         self.assertEqual(base.execute(look).fetchall(), [(NAMES + 1,)])
         self.assertIn("SCAN account", str(base.execute("EXPLAIN QUERY PLAN SELECT id FROM account WHERE npss_nfkc(name) = 'zo\u00eb'").fetchall()))
         self.whole(base)
