@@ -294,6 +294,7 @@ def main():
     check_where(tally)
     check_widths(tally)
     pages.check_pages(tally)
+    pages.check_figure(tally)
     pages.check_comments(tally)
     tally.finish()
 

@@ -273,7 +273,7 @@ def check_rust(tally, prefix, folder):
         tally.failed += int(failed)
     page = folder / "of the page"
     (page / "src").mkdir(parents=True)
-    dependency = page_program("docs/DOORS.md", "toml").replace("../npss/bindings/rust", str(ROOT / "bindings" / "rust"))
+    dependency = page_program("docs/DOORS.md", "toml").replace("../npss-rust", str(ROOT / "bindings" / "rust"))
     (page / "Cargo.toml").write_text(f'[package]\nname = "page"\nedition = "2021"\nversion = "0.1.0"\n\n{dependency}', encoding="utf-8")
     (page / "src" / "main.rs").write_text(page_program("docs/DOORS.md", "rust"), encoding="utf-8")
     for name in V1:
