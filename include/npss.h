@@ -31,6 +31,12 @@
 #include <stdbool.h>
 #endif
 
+/* The version of this header, as a text and as a number: 10,000 times the major version, 100 times the minor one, and the patch.
+ * The library's name is libnpss.so.0 as long as no call, status or struct is taken away or changed. No version changes the key
+ * of a text under the same two files. */
+#define NPSS_VERSION "0.2.0"
+#define NPSS_VERSION_NUMBER 200
+
 #ifdef __cplusplus
 extern "C" {
 #endif

@@ -4,6 +4,11 @@
     packaging/release.py            prints the version, each place that tells another one, and what is wrong with the scripts of SQL
     packaging/release.py --write    puts these places right, and lists the scripts of SQL as released
     packaging/release.py --told     prints how PROVED begins: the version and the commit
+    packaging/release.py --packed   prints the version of the packages
+
+The packages of a release have its version. Those of another commit have it with the commit's day and name behind, as
+0.2.0+git20261130.0123abcd, which is later than the release and earlier than the next one. A commit is a release where its tag
+stands at it; where there is no such tag yet, where CHANGELOG.md has nothing under "Unreleased".
 
 The extension for PostgreSQL has a version of its own for its SQL, in npss.control, which changes with the SQL alone. A script
 that a release had stays as it was: databases/postgresql/released has its sum. What changes comes in a script of the next
@@ -22,12 +27,22 @@ from pathlib import Path
 from typing import NamedTuple
 
 ROOT = Path(__file__).resolve().parent.parent
-# Where the version stands a second time, since other tools read it there: what stands before it, and how many of its numbers.
-PLACES = {
-    "bindings/python/src/npss/__init__.py": (r'^__version__ = "', 3),
-    "bindings/rust/Cargo.toml": (r'\A\[package\]\nname = "npss"\nversion = "', 3),
-    "bindings/rust/Cargo.lock": (r'^name = "npss"\nversion = "', 3),
-}
+
+
+def number_of(version):
+    """A version as a number: 10,000 times the major one, 100 times the minor one, and the patch."""
+    major, minor, patch = map(int, version.split("."))
+    return str(10_000 * major + 100 * minor + patch)
+
+
+# Where the version stands a second time, since other tools read it there: the file, what stands before it, and how it is spelled.
+PLACES = (
+    ("bindings/python/src/npss/__init__.py", r'^__version__ = "', str),
+    ("bindings/rust/Cargo.toml", r'\A\[package\]\nname = "npss"\nversion = "', str),
+    ("bindings/rust/Cargo.lock", r'^name = "npss"\nversion = "', str),
+    ("include/npss.h", r'^#define NPSS_VERSION "', str),
+    ("include/npss.h", r"^#define NPSS_VERSION_NUMBER ", number_of),
+)
 # The scripts of the extension for PostgreSQL, and the list of those that a release had.
 SQL = ROOT / "databases" / "postgresql"
 RELEASED = SQL / "released"
@@ -36,12 +51,18 @@ PROVED_SOURCES = ("crates", "crates.txt", "include", "build-c")
 
 
 class Release(NamedTuple):
-    """A version and the day of its release, the commit, and when it was made, in seconds from 1970."""
+    """A version and the day of its release, the commit, when it was made, in seconds from 1970, and the version of its packages."""
 
     version: str
     day: str
     commit: str
     time: int
+    packed: str
+
+    @property
+    def is_released(self):
+        """Whether the commit is that of the release."""
+        return self.packed == self.version
 
 
 def newest():
@@ -70,6 +91,22 @@ def is_changed_since(commit, *paths):
         return True
 
 
+def has_news():
+    """Whether CHANGELOG.md has something under "Unreleased"."""
+    found = re.search(r"^## Unreleased$(.*?)^## ", (ROOT / "CHANGELOG.md").read_text(encoding="utf-8"), re.MULTILINE | re.DOTALL)
+    return bool(found and found[1].strip())
+
+
+def packed_version(version, commit, time):
+    """The version of the packages of a commit: that of the release, or one that is later. Of no commit the time tells it alone."""
+    name, _, changed = commit.partition(", ")
+    tagged = git("rev-parse", f"v{version}^{{commit}}")
+    if not changed and (tagged == name if tagged else not has_news()):
+        return version
+    day = datetime.fromtimestamp(time, timezone.utc).strftime("%Y%m%d")
+    return f"{version}+git{day}" + (f".{name[:8]}" if name else "") + (".changed" if changed else "")
+
+
 def this_release():
     """The release that this tree is. SOURCE_DATE_EPOCH comes before the time of the commit, and that before the day of the version."""
     version, day = newest()
@@ -78,14 +115,14 @@ def this_release():
     time = int(os.environ.get("SOURCE_DATE_EPOCH") or git("log", "-1", "--format=%ct") or at_midnight)
     if commit and git("status", "--porcelain"):
         commit += ", with changes"
-    return Release(version, day, commit or "unknown", time)
+    return Release(version, day, commit or "unknown", time, packed_version(version, commit, time))
 
 
 def differing(version, write=False):
     """The places that tell another version; `write` puts them right."""
     told = []
-    for name, (before, numbers) in PLACES.items():
-        path, wanted = ROOT / name, ".".join(version.split(".")[:numbers])
+    for name, before, spelled in PLACES:
+        path, wanted = ROOT / name, spelled(version)
         text = path.read_text(encoding="utf-8")
         changed, count = re.subn(rf"({before})[0-9.]+", rf"\g<1>{wanted}", text, count=1, flags=re.MULTILINE)
         if count == 0 or changed != text:
@@ -139,6 +176,9 @@ def main():
     version, _ = newest()
     if sys.argv[1:] == ["--told"]:
         print(f"npss {version}\ncommit {this_release().commit}")
+        return 0
+    if sys.argv[1:] == ["--packed"]:
+        print(this_release().packed)
         return 0
     print(version)
     told = differing(version, write)

@@ -1,4 +1,4 @@
-"""The tarball: what ./build-c installs, and the pages, in a folder that may stand anywhere."""
+"""The tarball: what ./build-c installs, and the pages and examples, in a folder that may stand anywhere."""
 
 import gzip
 import io
@@ -6,9 +6,7 @@ import os
 import tarfile
 from pathlib import Path
 
-ROOT = Path(__file__).resolve().parent.parent
-PAGES = ("README.md", "CHANGELOG.md", "docs/INSTALL.md", "docs/BULK.md", "docs/DOORS.md", "docs/FORMATS.md")
-COMPLETIONS = ("npss", "npss_lines", "npss_caseless")
+from documents import completions, documents
 
 
 def contents(prefix, proved):
@@ -17,16 +15,16 @@ def contents(prefix, proved):
         for path in sorted((prefix / folder).rglob("*")):
             if path.is_symlink() or path.is_file():
                 yield str(path.relative_to(prefix)), path
-    for name in COMPLETIONS:
-        yield f"share/bash-completion/completions/{name}", ROOT / "packaging" / "completions" / name
-    for page in PAGES:
-        yield f"share/doc/npss/{Path(page).name}", ROOT / page
+    for name, path in completions().items():
+        yield f"share/{name}", path
+    for name, path in documents().items():
+        yield f"share/doc/npss/{name}", path
     yield "PROVED", proved.encode()
 
 
 def entry(name, what, release):
     """The head of a file in the archive, and its bytes: nobody's, and as old as the commit."""
-    head = tarfile.TarInfo(f"npss-{release.version}/{name}")
+    head = tarfile.TarInfo(f"npss-{release.packed}/{name}")
     head.mtime = release.time
     head.uname = head.gname = "root"
     if isinstance(what, Path) and what.is_symlink():
@@ -34,13 +32,13 @@ def entry(name, what, release):
         return head, b""
     data = what if isinstance(what, bytes) else what.read_bytes()
     head.size = len(data)
-    head.mode = 0o755 if name.startswith("bin/") or ".so" in name else 0o644
+    head.mode = 0o755 if name.startswith("bin/") or ".so" in name or "/examples/" in name and os.access(what, os.X_OK) else 0o644
     return head, data
 
 
 def make_tarball(release, prefix, proved, to):
     """Makes the tarball in a folder; its path."""
-    path = to / f"npss-{release.version}-linux-{os.uname().machine}.tar.gz"
+    path = to / f"npss-{release.packed}-linux-{os.uname().machine}.tar.gz"
     whole = io.BytesIO()
     with tarfile.open(fileobj=whole, mode="w", format=tarfile.USTAR_FORMAT) as packed:
         for name, what in contents(prefix, proved):

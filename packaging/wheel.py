@@ -69,12 +69,12 @@ def built(prefix, folder):
 
 def facts_folder(release):
     """The folder beside the module that tells what it is."""
-    return f"npss-{release.version}.dist-info"
+    return f"npss-{release.packed}.dist-info"
 
 
 def metadata(release):
     """What tells Python of the module, however it is packed."""
-    told = (f"Metadata-Version: 2.1\nName: npss\nVersion: {release.version}\nSummary: {SUMMARY}\n"
+    told = (f"Metadata-Version: 2.1\nName: npss\nVersion: {release.packed}\nSummary: {SUMMARY}\n"
             f"Requires-Python: >={PYTHON[0]}.{PYTHON[1]}\nClassifier: Operating System :: POSIX :: Linux\n"
             "Classifier: Typing :: Typed\nDescription-Content-Type: text/markdown\n\n")
     page = (ROOT / "docs" / "INSTALL.md").read_text(encoding="utf-8")
@@ -98,7 +98,7 @@ def make_wheel(release, prefix, proved, to, room):
     files.update({f"{folder}/{name}": text.encode() for name, text in {**described(release, tag), "PROVED": proved}.items()})
     record = "".join(f"{name},sha256={digest(data)},{len(data)}\n" for name, data in files.items())
     files[f"{folder}/RECORD"] = f"{record}{folder}/RECORD,,\n".encode()
-    path = to / f"npss-{release.version}-{tag}.whl"
+    path = to / f"npss-{release.packed}-{tag}.whl"
     when = time.gmtime(release.time)[:6]
     with zipfile.ZipFile(path, "w", zipfile.ZIP_DEFLATED) as packed:
         for name, data in files.items():

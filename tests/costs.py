@@ -3,7 +3,8 @@
 
 Answers that are right and several times as dear fail no other test: a table that tells nothing of ASCII, or an audit that
 looks at each code point. Each run's instructions are counted by valgrind, and may be a tenth more than the figure that is
-kept below. Where a change makes a run cheaper, put the figure right. Ends in a line 'N passed, M failed'.
+kept below. Where a change makes a run cheaper, put the figure right. tests/doors.py counts keys through the library for C
+in the same way. Ends in a line 'N passed, M failed'.
 """
 
 import re
@@ -27,6 +28,9 @@ LENGTH = 4 << 20
 ASCII = "the quick brown fox jumps over a lazy dog "
 LATIN = "Zo\u00eb na\u00efvet\u00e9 \u00e0 c\u00f4t\u00e9 "
 
+# How many instructions a key takes through the library for C, by the text's name in doors/costs.c.
+KEYS = {"short": 0, "long": 0, "changed": 0, "looked-up": 0}
+
 
 def version():
     """A data file with ASCII, some Latin letters and marks, and 26,000 more code points, each by itself."""
@@ -47,6 +51,7 @@ def runs(program, lines):
     yield "key of ASCII, NFC", [program, "key", "--form", "nfc", *files], ascii_text, 26.4
     yield "key of Latin, NFC", [program, "key", "--form", "nfc", *files], latin, 74.1
     yield "key of Latin, NFD", [program, "key", "--form", "nfd", *files], latin, 200.0
+    yield "lines of short names, NFC", [lines, "--form", "nfc", *files], b"bob\n" * (LENGTH // 4), 0
     yield "lines of Latin, NFD", [lines, "--form", "nfd", *files], latin.replace(b" ", b"\n"), 327.1
 
 
@@ -58,14 +63,29 @@ def instructions(command, given, folder):
     return int(counted[1].replace(b",", b"")) / 1e6 if counted else None, ended.returncode
 
 
+def write_version(folder):
+    """Writes the version's two files."""
+    (folder / "data").write_text(version(), encoding="ascii")
+    (folder / "exclusions").write_text("", encoding="ascii")
+
+
+def check_keys(tally, program, folder):
+    """Keys through the library for C, by the program of doors/costs.c: what a thousand take more than one."""
+    write_version(folder)
+    for name, kept in KEYS.items():
+        one, more = (instructions([program, "data", "exclusions", name, str(keys)], b"", folder)[0] for keys in (1, 1001))
+        count = round((more - one) * 1e3) if one and more else None
+        print(f"a key through C, {name}: {count} instructions, {kept} are kept")
+        tally.check(f"a key through C, {name}: its instructions", count is not None and count <= kept * MORE, f"{count}, and {kept} are kept")
+
+
 def main():
     tally = Tally()
     if shutil.which("valgrind") is None:
         print("skipped: instructions of runs: valgrind is not there")
     else:
         with tempfile.TemporaryDirectory() as folder:
-            (Path(folder) / "data").write_text(version(), encoding="ascii")
-            (Path(folder) / "exclusions").write_text("", encoding="ascii")
+            write_version(Path(folder))
             for name, command, given, kept in runs(*(Path(word).resolve() for word in sys.argv[1:3])):
                 count, status = instructions(command, given, folder)
                 print(f"{name}: {count} million instructions, {kept} are kept, status {status}")

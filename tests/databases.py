@@ -86,7 +86,7 @@ def run_release(copy, *words):
 
 def check_release(tally, room):
     """A release by the recipe of CONTRIBUTING.md leaves the SQL of the extension as it is, and keeps it from then on."""
-    copy, names = room / "release", ["CHANGELOG.md", "packaging/release.py", "bindings/python/src/npss/__init__.py", "bindings/rust/Cargo.toml", "bindings/rust/Cargo.lock"]
+    copy, names = room / "release", ["CHANGELOG.md", "include/npss.h", "packaging/release.py", "bindings/python/src/npss/__init__.py", "bindings/rust/Cargo.toml", "bindings/rust/Cargo.lock"]
     for name in [*names, *(str(path.relative_to(ROOT)) for path in POSTGRESQL.iterdir() if path.is_file())]:
         (copy / name).parent.mkdir(parents=True, exist_ok=True)
         shutil.copy(ROOT / name, copy / name)

@@ -9,8 +9,8 @@ The first table has each file that a reader must believe once: what it defines, 
 what it needs, and how many lines of statements it has, which are neither blank nor comment nor import.
 The second has for each promise the public contracts that carry it, the files that these cite
 (contracts.py finds them), and the statements of these with all that they need. Each file of definitions
-outside `inside` has to be reached by a promise; none may import one of `inside`; a public contract that
-cites one of `inside` has to be named below the tables. In the table 'Where is' of docs/ARCHITECTURE.md
+outside `inside` has to be reached by a promise; none may import one of `inside`; a public contract and a
+model that cite one of `inside` have to be named below the tables. In the table 'Where is' of docs/ARCHITECTURE.md
 each name has to stand in the file before it. Code and those files have lines under 160 characters, but for
 imports. Prints the sums, and ends in a line 'N passed, M failed'.
 """
@@ -41,6 +41,7 @@ OF_A_CRATE = ("src", "specs", "proofs", "must-fail", "must-fail-release", "out")
 # What no line of code or of a definition reaches.
 WIDTH = 160
 FILES, PROMISES = "## The files, in reading order", "## What a promise rests on"
+CITED, MODELS = "## What is inside, and cited by a public contract all the same", "## What a value of a type stands for"
 
 
 def documents():
@@ -210,14 +211,22 @@ def check_reading_list(tally):
 
 
 def check_inside(tally):
-    """The public contracts that cite what serves proofs are those that the page names."""
-    text = DEFINITIONS.read_text(encoding="utf-8").partition("\n## What is inside")[2]
+    """The public contracts and models that cite what serves proofs are those that the page names, each in its part."""
+    text = DEFINITIONS.read_text(encoding="utf-8")
+    contracts, models = (part.partition("\n## ")[0] for part in text.partition(f"\n{CITED}\n")[2].partition(f"\n{MODELS}\n")[::2])
+    citing = {contract.name for contract in public_contracts()
+              if any(module.is_inside for module in contract.cites) and is_exported(contract)}
+    of_types = {name.removesuffix(" (model)") for name in citing if name.endswith(" (model)")}
+    check_named(tally, "contract", {name for name in citing if not name.endswith(" (model)")}, contracts)
+    check_named(tally, "model", of_types, models)
+
+
+def check_named(tally, kind, citing, text):
+    """The page names each of these that cites what is inside."""
     named = set(CODE.findall(text))
-    citing = {contract.where.split()[1] for contract in public_contracts() if not contract.name.endswith("(model)")
-              and any(module.is_inside for module in contract.cites) and is_exported(contract)}
     for name in sorted(citing - named):
-        tally.check(f"docs/DEFINITIONS.md names {name}, which cites what is inside", False, "it doesn't")
-    tally.check("contracts that cite what is inside are named", citing <= named, "")
+        tally.check(f"docs/DEFINITIONS.md names the {kind} of {name}, which cites what is inside", False, "it doesn't")
+    tally.check(f"each {kind} that cites what is inside is named", bool(citing) and citing <= named, "")
 
 
 def is_exported(contract):
@@ -285,6 +294,7 @@ def main():
     check_where(tally)
     check_widths(tally)
     pages.check_pages(tally)
+    pages.check_figure(tally)
     pages.check_comments(tally)
     tally.finish()
 

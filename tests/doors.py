@@ -25,6 +25,7 @@ LARGE = 8_000_000
 # Nothing is written into the tree but crates/*/out and out/c.
 sys.dont_write_bytecode = True
 
+import costs
 import histories
 import ucd
 import versions
@@ -140,6 +141,9 @@ def check_c(tally, prefix, folder):
         if wanted("valgrind"):
             counted(tally, "fences under valgrind", ["valgrind", "-q", "--error-exitcode=9", "--soname-synonyms=somalloc=nouserintercepts",
                                                         program, *V1, *V2])
+    program = compiled(tally, prefix, folder, "costs")
+    if program and wanted("valgrind"):
+        costs.check_keys(tally, program, folder)
     program = compiled(tally, prefix, folder, "threads")
     if program:
         counted(tally, "threads", [program, *V1, KEYS])
@@ -269,7 +273,7 @@ def check_rust(tally, prefix, folder):
         tally.failed += int(failed)
     page = folder / "of the page"
     (page / "src").mkdir(parents=True)
-    dependency = page_program("docs/DOORS.md", "toml").replace("../npss/bindings/rust", str(ROOT / "bindings" / "rust"))
+    dependency = page_program("docs/DOORS.md", "toml").replace("../npss-rust", str(ROOT / "bindings" / "rust"))
     (page / "Cargo.toml").write_text(f'[package]\nname = "page"\nedition = "2021"\nversion = "0.1.0"\n\n{dependency}', encoding="utf-8")
     (page / "src" / "main.rs").write_text(page_program("docs/DOORS.md", "rust"), encoding="utf-8")
     for name in V1:

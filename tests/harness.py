@@ -48,6 +48,13 @@ def run(program, words, stdin=b"", folder=None, **options):
     return done.returncode, done.stdout or b"", done.stderr or b""
 
 
+def told(tally, name, words, **options):
+    """What a command writes, which has to end with status 0."""
+    done = subprocess.run(list(map(str, words)), stdin=subprocess.DEVNULL, stdout=subprocess.PIPE, stderr=subprocess.STDOUT, text=True,
+                          check=False, **options)
+    return done.stdout if tally.check(name, done.returncode == 0, f"status {done.returncode}: {done.stdout[-3000:]}") else ""
+
+
 def shown(value, limit=200):
     """The value for a line of output, cut where it is long."""
     text = repr(value)

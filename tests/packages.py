@@ -5,7 +5,9 @@ PREFIX is where ./build-c installed programs and library; without it ./build-c i
 given. In turn: places that tell the version, and scripts that ask for the toolchain; the packages twice, in two folders, the
 same bytes; what they have, by lintian and by their sums; the tarball where it was unpacked; then, in a root that mmdebstrap
 makes without toolchain and compiler, each package installed, first keys by program, C, Python, PostgreSQL, SQLite and the
-registry, and all of it removed again with nothing left, also over what ./build-c /usr/local installs. What can't run here is
+registry, and all of it removed again with nothing left, also over what ./build-c /usr/local installs. Then that Debian is booted
+by systemd-nspawn (lives.py): the blocks of the pages are typed there as they stand (typed.py), the next release, which is made in
+a copy by the recipe of CONTRIBUTING.md, is installed over this commit's packages, and all is removed. What can't run here is
 skipped, with the reason. Run as root it installs Debian's packages that this wants, and says so first, unless NO_APT=1 is set.
 Ends in a line 'N passed, M failed'.
 """
@@ -15,7 +17,6 @@ import hashlib
 import os
 import re
 import shutil
-import socket
 import subprocess
 import sys
 import tempfile
@@ -25,23 +26,26 @@ from pathlib import Path
 
 sys.dont_write_bytecode = True
 
+import lives
 import roots
-from harness import ROOT, Tally, install
+from completing import check_completion
+from harness import ROOT, Tally, install, told
+from packed_registry import check_registry, check_service
+from releasing import check_versions, copied_tree, next_release
+from roots import COMPATIBLE, FILES, KEY, TEXT, UNICODE
 
 sys.path.insert(0, str(ROOT / "packaging"))
 import release as releases
 
-WANTED = ("lintian", "mmdebstrap", "pkg-config")
+WANTED = ("fish", "lintian", "mmdebstrap", "pkg-config", "systemd-nspawn", "zsh")
+# The package of a command that has another name.
+NAMED = {"systemd-nspawn": "systemd-container"}
 # In the order of what depends on what.
-DEBIAN = ("npss", "libnpss0", "libnpss-dev", "python3-npss", "postgresql-15-npss", "sqlite3-npss", "npss-registry")
+DEBIAN = ("npss", "libnpss0", "libnpss-dev", "python3-npss", "postgresql-15-npss", "sqlite3-npss", "npss-registry", "npss-doc")
 PROGRAMS = ("npss", "npss_lines", "npss_caseless")
 # What asks for the toolchain, and how a script does that.
 ASKING = {"build-c", "npss", "prove", "test", "bench/gate", "tests/edits.py", "tests/wrong_bodies.py"}
 ASKS = re.compile(r"which\([\"']rt[\"']|\[[\"']rt[\"']|command -v rt\b|for command in rt\b|^\s*(?:\w+=\S* )*rt [a-z]", re.MULTILINE)
-# A text, and its keys under NFC and NFKC.
-TEXT, KEY, COMPATIBLE = "a\u0302\u0323\ufb01", "\u1ead\ufb01", "\u1eadfi"
-UNICODE = "/usr/share/unicode"
-FILES = (f"{UNICODE}/UnicodeData.txt", f"{UNICODE}/CompositionExclusions.txt")
 KEY_BY_PYTHON = f"""
 import importlib.metadata
 import npss
@@ -52,31 +56,6 @@ KEY_BY_SQL = ".load {extension}\nSELECT npss_raise('{folder}');\nSELECT hex(npss
 # A PostgreSQL without a server: one process reads its statements.
 SINGLE = "/usr/lib/postgresql/15/bin/postgres"
 VERSIONS = "/tmp/versions"
-# The service of the registry, what it works with where systemd doesn't start it, and the most exposure by systemd's own measure.
-UNIT, STATE, SECRETS, TOKEN, EXPOSURE = "lib/systemd/system/npss-registry.service", "tmp/state", "tmp/secrets", "0123456789abcdef", 20
-SERVED = f"""
-import json, subprocess, sys, time, urllib.error, urllib.request
-line, port = sys.argv[1:]
-
-def asked(path, body=None):
-    data = None if body is None else json.dumps(body).encode()
-    request = urllib.request.Request(f"http://127.0.0.1:{{port}}{{path}}", data, {{"Authorization": "Bearer {TOKEN}"}})
-    try:
-        return urllib.request.urlopen(request, timeout=10).status
-    except urllib.error.HTTPError as error:
-        return error.code
-
-server = subprocess.Popen(["sh", "-c", f"exec {{line}}"], stderr=subprocess.PIPE, text=True)
-print(server.stderr.readline().strip())
-for _ in range(200):
-    try:
-        print(asked("/status"), asked("/claim", {{"name": {TEXT!r}, "owner": "17"}}), asked("/find", {{"name": {KEY!r}}}))
-        break
-    except urllib.error.URLError:
-        time.sleep(0.1)
-server.terminate()
-print(server.wait())
-"""
 
 
 def check_toolchain(tally):
@@ -88,29 +67,8 @@ def check_toolchain(tally):
     tally.same("what asks for the toolchain", sorted(asking - ASKING), [])
 
 
-def told(tally, name, words, **options):
-    """What a command writes, which has to end with status 0."""
-    done = subprocess.run(list(map(str, words)), stdin=subprocess.DEVNULL, stdout=subprocess.PIPE, stderr=subprocess.STDOUT, text=True,
-                          check=False, **options)
-    return done.stdout if tally.check(name, done.returncode == 0, f"status {done.returncode}: {done.stdout[-3000:]}") else ""
-
-
 def sums(folder):
     return {path.name: hashlib.sha256(path.read_bytes()).hexdigest() for path in sorted(folder.iterdir())}
-
-
-def copied_tree(to):
-    """A copy of this tree with what git knows of it, or nothing where there is no git here."""
-    listed = releases.git("ls-files", "-z", "--cached", "--others", "--exclude-standard")
-    if not listed or releases.git("rev-parse", "--show-prefix"):
-        return None
-    subprocess.run(["git", "clone", "-q", "--no-checkout", "--shared", str(ROOT), str(to)], check=True)
-    subprocess.run(["git", "-C", str(to), "reset", "-q"], check=True)
-    for name in filter(None, listed.split("\0")):
-        if (ROOT / name).is_file():
-            (to / name).parent.mkdir(parents=True, exist_ok=True)
-            shutil.copy(ROOT / name, to / name)
-    return to
 
 
 def check_made(tally, prefix, room):
@@ -278,9 +236,9 @@ def check_c_again(tally, root, name):
         tally.same(f"first key by {name}", root.run("/tmp/first", *FILES), (0, "\u1ead\n"))
 
 
-def check_python(tally, root, wheel, version):
+def check_python(tally, root, wheel, release):
     """The package for Debian's Python, and the wheel in an environment of its own, without a compiler."""
-    wanted = (0, f"{version} {version} {ascii(KEY)}\n")
+    wanted = (0, f"{release.version} {release.packed} {ascii(KEY)}\n")
     tally.same("first key by Python", root.run("python3", "-c", KEY_BY_PYTHON), wanted)
     tally.check("there is no compiler", root.run("sh", "-c", "command -v cc gcc tcc rt")[0] != 0)
     if wheel is None:
@@ -292,45 +250,6 @@ def check_python(tally, root, wheel, version):
         script = f"{KEY_BY_PYTHON}\nassert npss.__file__.startswith('/tmp/venv/'), npss.__file__"
         tally.same("first key by the wheel", root.run("/tmp/venv/bin/python", "-c", script), wanted)
         check_page(tally, root, "venv/bin/python", "J\xf6rg\n")
-
-
-def check_registry(tally, root):
-    """A registry over the package for Python, with the program as its judge."""
-    for words, wanted in ((["init", "/tmp/store", *FILES, "--form", "nfkc"], "form nfkc, room 65536, shards 1, equivalents refused, names of at most 1024 bytes\n"),
-                          (["claim", "/tmp/store", TEXT, "--owner", "17"], None), (["find", "/tmp/store", COMPATIBLE], None),
-                          (["check", "/tmp/store"], None)):
-        status, written = root.run("npss-registry", *words)
-        tally.check(f"npss-registry {words[0]}", status == 0 and (wanted is None or written == wanted), f"status {status}: {written}")
-
-
-def check_service(tally, root, room):
-    """The registry's service is off until somebody starts it, and its line serves a store, to this machine alone."""
-    text = (root.folder / UNIT).read_text(encoding="utf-8")
-    started = [place for place in root.listed() if place.startswith("etc/") and place.endswith(Path(UNIT).name)]
-    tally.same("the service is off", started, [])
-    with socket.socket() as free:
-        free.bind(("127.0.0.1", 0))
-        port = free.getsockname()[1]
-    # As systemd does it: the store is the service's own, and the token is lent to it.
-    for folder in (STATE, SECRETS):
-        (root.folder / folder).mkdir()
-    status, written = root.run("npss-registry", "init", f"/{STATE}/store", *FILES)
-    tally.check("a store for the service", status == 0, written)
-    (root.folder / SECRETS / "token").write_text(f"{TOKEN}\n", encoding="ascii")
-    root.run("chown", "-R", "nobody", f"/{STATE}", f"/{SECRETS}")
-    line = re.search(r"^ExecStart=(.*)$", text, re.MULTILINE)[1]
-    status, written = root.run("python3", "-c", SERVED, line, port, user="nobody", STATE_DIRECTORY=f"/{STATE}",
-                               RUNTIME_DIRECTORY=f"/{SECRETS}", OPTIONS=f"--port {port}")
-    served, _, answered = written.partition("\n")
-    tally.check("the line of the service", served.startswith(f"npss-registry: serves /{STATE}/store at http://127.0.0.1:{port}/, one token; "), served)
-    tally.same("what the service answers", (status, answered), (0, "200 201 200\n0\n"))
-    if not shutil.which("systemd-analyze"):
-        print("skipped: what systemd says of the service: systemd-analyze not found")
-        return
-    # The program isn't on this machine, nor are systemd's own units in the root.
-    (room / Path(UNIT).name).write_text(text.replace("/usr/bin/npss-registry", "/bin/true"), encoding="utf-8")
-    told(tally, "systemd reads the service", ["systemd-analyze", "verify", "--man=no", room / Path(UNIT).name])
-    told(tally, "the service may do little", ["systemd-analyze", "security", "--offline=yes", f"--threshold={EXPOSURE}", root.folder / UNIT])
 
 
 def check_databases(tally, root):
@@ -350,18 +269,7 @@ def check_databases(tally, root):
         tally.check("first key by PostgreSQL", status == 0 and f'made = "{wanted}"' in written, f"status {status}: {written}")
 
 
-def check_completion(tally, root):
-    """What bash completes by what is installed."""
-    for name, typed, wanted in (("npss", "npss k", "key"), ("npss", "npss key --form nfkc --c", "--check-under"),
-                                ("npss_lines", "npss_lines --form nfk", "nfkc nfkd"), ("npss_caseless", "npss_caseless ke", "key"), ("npss-registry", "npss-registry cl", "claim")):
-        words = " ".join(f"'{word}'" for word in typed.split())
-        script = (f'source "$0"; COMP_WORDS=({words}); COMP_CWORD=$((${{#COMP_WORDS[@]}} - 1)); _{name.replace("-", "_")}; '
-                  'echo "${COMPREPLY[@]}"')
-        written = told(tally, f"completion of {typed!r}", ["bash", "-c", script, root.folder / "usr/share/bash-completion/completions" / name])
-        tally.same(f"what completes {typed!r}", sorted(written.split()), sorted(wanted.split()))
-
-
-def check_root(tally, root, made, prefix, version, room):
+def check_root(tally, root, made, prefix, release, room):
     """Installed where no toolchain is, used, and removed; then once more over what ./build-c /usr/local installs."""
     (root.folder / "packages").mkdir()
     for path in made.iterdir():
@@ -371,7 +279,7 @@ def check_root(tally, root, made, prefix, version, room):
     check_programs(tally, root, "/usr/bin/npss")
     check_page(tally, root, "printf", "fi\n")
     check_c(tally, root, room)
-    check_python(tally, root, next(made.glob("*.whl"), None), version)
+    check_python(tally, root, next(made.glob("*.whl"), None), release)
     check_registry(tally, root)
     check_service(tally, root, room)
     check_databases(tally, root)
@@ -388,15 +296,19 @@ def check_root(tally, root, made, prefix, version, room):
     check_removal(tally, root, some, before)
     check_programs(tally, root, "npss")
     check_c_again(tally, root, "C over /usr/local")
+    for name in ("bin/npss", "bin/npss_lines", "bin/npss_caseless", "include/npss.h", *(str(path.relative_to(prefix)) for path in (prefix / "lib").glob("libnpss*"))):
+        (root.folder / "usr/local" / name).unlink()
+    root.run("ldconfig")
 
 
-def check_all(tally, prefix, version, room, making):
-    """The packages of what is built in a prefix. `making` tells why there is no root, or nothing, when it is there."""
+def check_all(tally, prefix, release, room, pool):
+    """The packages of what is built in a prefix, in a root that is made meanwhile."""
+    making = pool.submit(roots.make, room / "root")
     began = time.monotonic()
     made = check_made(tally, prefix, room)
     if made is None:
         return
-    check_tarball(tally, check_contents(tally, prefix, made, version, room), room)
+    check_tarball(tally, check_contents(tally, prefix, made, release.packed, room), room)
     has_debian = any(made.glob("*.deb"))
     if has_debian:
         check_lintian(tally, made)
@@ -407,28 +319,32 @@ def check_all(tally, prefix, version, room, making):
         return
     print(f"a root made meanwhile: {time.monotonic() - began:.0f} seconds", flush=True)
     began = time.monotonic()
-    check_root(tally, roots.Root(room / "root"), made, prefix, version, room)
-    print(f"packages installed, used and removed: {time.monotonic() - began:.0f} seconds")
+    releasing = pool.submit(next_release, prefix, room)
+    check_root(tally, roots.Root(room / "root"), made, prefix, release, room)
+    print(f"packages installed, used and removed: {time.monotonic() - began:.0f} seconds", flush=True)
+    began = time.monotonic()
+    upgraded = check_versions(tally, made, *releasing.result())
+    lives.check(tally, roots.Root(room / "root"), made, upgraded, room)
+    print(f"pages typed, and packages upgraded, in a Debian that was booted: {time.monotonic() - began:.0f} seconds")
 
 
 def main():
     tally = Tally()
-    version, _ = releases.newest()
-    tally.same("places that tell another version than CHANGELOG.md", releases.differing(version), [])
+    release = releases.this_release()
+    tally.same("places that tell another version than CHANGELOG.md", releases.differing(release.version), [])
     check_toolchain(tally)
     flags = [word for word in sys.argv[1:] if word.startswith("--")]
     named = [Path(word).resolve() for word in sys.argv[1:] if not word.startswith("--")]
     missing = [name for name in WANTED if not shutil.which(name)]
     if missing:
-        install(missing)
+        install([NAMED.get(name, name) for name in missing])
     # The folder goes when the root is no longer being made.
     with tempfile.TemporaryDirectory(dir=roots.place()) as name, concurrent.futures.ThreadPoolExecutor() as pool:
         room = Path(name)
         room.chmod(0o755)
-        making = pool.submit(roots.make, room / "root")
         prefix = named[0] if named else room / "built"
         if named or told(tally, "./build-c", [ROOT / "build-c", *flags, prefix]):
-            check_all(tally, prefix, version, room, making)
+            check_all(tally, prefix, release, room, pool)
     tally.finish()
 
 

@@ -1,4 +1,4 @@
-"""The lengths of the pages and of their sentences."""
+"""The lengths of the pages and of their sentences, and whether the figure of the crates is that of crates.txt."""
 
 import re
 
@@ -29,6 +29,9 @@ PAGES = {
     "docs/STANDARD.md": (None, None),
     "docs/FORMATS.md": (None, None),
     "docs/DEFINITIONS.md": (None, None),
+    "docs/MOVING.md": (None, None),
+    "docs/README.md": (None, None),
+    "docs/GLOSSARY.md": (None, None),
 }
 # The headline's sentence stands as it is.
 KEPT = "from one chain"
@@ -62,6 +65,39 @@ def check_pages(tally):
         tally.check(f"{name}: its length", lines <= (most_lines or lines) and words <= (most_words or words),
                     f"{lines} lines, {words} words")
         print(f"{name}: {lines} lines, {words} words, {mean:.1f} words a sentence, {max(counts, default=0)} in the longest")
+
+
+def reached(arrows, begin):
+    """What can be reached from a crate along arrows."""
+    found, more = set(), {begin}
+    while more:
+        more = {end for one in more for end in arrows.get(one, ())} - found
+        found |= more
+    return found
+
+
+def by_begin(pairs):
+    """Arrows by where they begin."""
+    found = {}
+    for begin, end in pairs:
+        found.setdefault(begin, set()).add(end)
+    return found
+
+
+def check_figure(tally):
+    """Each crate but those of tests stands in the figure, above what it stands on, and no arrow is there without that."""
+    figure = ROOT / "docs" / "figures"
+    needs = {name: set(below.split()) for name, below in re.findall(r"^(\w+)(?: \w+)*:(.*)$", (ROOT / "crates.txt").read_text(encoding="utf-8"), re.MULTILINE)
+             if not name.startswith("np_examples")}
+    needs = {name: below & needs.keys() for name, below in needs.items()}
+    drawn = {pair for pair in re.findall(r"^ *(\w+) -> (\w+)", (figure / "crates.dot").read_text(encoding="utf-8"), re.MULTILINE) if pair[0] in needs}
+    above = by_begin(drawn)
+    lacking = [f"{below} to {name}" for name in needs for below in needs[name] if name not in reached(above, below)]
+    tally.check("crates.dot has an arrow or a way for each line of crates.txt", not lacking, lacking)
+    untrue = [f"{below} to {name}" for below, name in drawn if below not in reached(needs, name)]
+    tally.check("crates.dot has no arrow but those of crates.txt", not untrue, untrue)
+    told = set(re.findall(r"<title>(\w+)&#45;&gt;(\w+)</title>", (figure / "crates.svg").read_text(encoding="utf-8")))
+    tally.check("crates.svg is drawn of crates.dot", drawn <= told, f"run docs/figures/make: {sorted(drawn - told)}")
 
 
 def doc_comments():

@@ -9,6 +9,10 @@ from pathlib import Path
 
 # What stands in the root before: what the packages depend on, and what a first key wants. No compiler.
 PACKAGES = ("postgresql-15", "python3", "python3-prometheus-client", "python3-starlette", "python3-uvicorn", "python3-venv", "sqlite3", "unicode-data")
+# A text, its keys under NFC and NFKC, and the files of the version, as the root has them.
+TEXT, KEY, COMPATIBLE = "a\u0302\u0323\ufb01", "\u1ead\ufb01", "\u1eadfi"
+UNICODE = "/usr/share/unicode"
+FILES = (f"{UNICODE}/UnicodeData.txt", f"{UNICODE}/CompositionExclusions.txt")
 SOURCES = Path("/etc/apt/sources.list.d/debian.sources")
 PLAIN_SOURCES = Path("/etc/apt/sources.list")
 # A file that is written with no care for a crash; no translations.

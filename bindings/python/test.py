@@ -15,6 +15,7 @@ import tempfile
 import threading
 import time
 import unittest
+import weakref
 from pathlib import Path
 
 import npss
@@ -56,7 +57,9 @@ class Opening(unittest.TestCase):
             Tables.open(3.5, b"")
         with self.assertRaises(TypeError):
             Tables()
-
+        with open(V1[0], "rb") as file:
+            self.assertRaisesRegex(TypeError, "a path or bytes are wanted, not .*BufferedReader.*: hand over its name", Tables.open, file, V1[1])
+        self.assertRaisesRegex(TypeError, "a path or bytes are wanted, not <class 'NoneType'>$", Tables.open, V1[0], None)
 
     def test_a_large_file_is_not_read_whole(self):
         with tempfile.NamedTemporaryFile() as file:
@@ -68,7 +71,11 @@ class Opening(unittest.TestCase):
         tables = Tables.open(*V1)
         for protocol in range(pickle.HIGHEST_PROTOCOL + 1):
             self.assertRaisesRegex(TypeError, "call Tables.open there", pickle.dumps, tables, protocol)
-        self.assertRaises(TypeError, copy.copy, tables)
+
+    def test_a_copy_is_the_same_object(self):
+        tables = Tables.open(*V1)
+        self.assertIs(copy.copy(tables), tables)
+        self.assertIs(copy.deepcopy([tables])[0], tables)
 
     def test_a_read_that_fails(self):
         self.assertRaises(OSError, Tables.open, "/proc/self/mem", b"")
@@ -495,6 +502,63 @@ class Nodes(unittest.TestCase):
         self.assertEqual([entry.string for entry in node], strings)
         self.assertEqual(node.key(strings[-1]), "\u1ead" * 1_999)
         self.assertEqual(self.state(Node.restore(self.old, node.image())), self.state(node))
+
+
+class Habits(unittest.TestCase):
+    """What a user of Python expects of any object."""
+
+    def setUp(self):
+        self.tables = Tables.open(*V1)
+
+    def test_one_text_is_no_list_of_texts(self):
+        self.assertRaisesRegex(TypeError, "key makes the key of one str", self.tables.keys, "abc")
+        self.assertRaises(TypeError, self.tables.keys, b"abc")
+        self.assertRaisesRegex(TypeError, "bytes are wanted, not <class 'str'>", self.tables.answers, "abc")
+        self.assertEqual(self.tables.keys(("a", MARKED)), ["a", "\u1ead"])
+
+    def test_a_refusal_tells_which_text(self):
+        with self.assertRaises(Unassigned) as caught:
+            self.tables.keys(["a", "", "aA\U0010ffff"])
+        self.assertEqual((caught.exception.number, str(caught.exception)), (2, "10FFFF at character 2 (byte 2) of text 2 is not assigned"))
+        self.assertEqual(str(self.tables.first_unassigned("\U0010ffff")), "10FFFF at character 0 (byte 0) is not assigned")
+
+    def test_errors_are_those_of_the_package(self):
+        for name in ("BadEntry", "BadTables", "Full", "KeyDiffers", "Malformed", "NotUtf8", "OlderTables", "OtherForm", "Refused", "TooLong", "Unassigned"):
+            self.assertEqual(getattr(npss, name).__module__, "npss")
+        error = self.tables.first_unassigned("\U0010ffff")
+        self.assertEqual(pickle.loads(pickle.dumps(error)).args, error.args)
+
+    def test_what_is_shown(self):
+        self.assertEqual(repr(self.tables), "<npss.Tables: 17660 code points>")
+
+    def test_weak_references(self):
+        for make in (lambda: Tables.open(*V1), lambda: Node(self.tables), lambda: self.tables.stream()):
+            kept = make()
+            found = weakref.ref(kept)
+            self.assertIs(found(), kept)
+            del kept
+            self.assertIsNone(found())
+        self.assertEqual(len(weakref.WeakSet([self.tables])), 1)
+
+    def test_a_node_that_changes_under_an_iterator(self):
+        node = Node(self.tables)
+        self.assertEqual(list(iter(node)), [])
+        for text in ("a", "A", MARKED):
+            node.accept(text)
+        other = Node(self.tables)
+        other.accept("i")
+        for change in (lambda: node.accept("f"), lambda: node.forget("a"), lambda: node.take(other.message("i"))):
+            entries = iter(node)
+            next(entries)
+            change()
+            self.assertRaisesRegex(RuntimeError, "changed during iteration", next, entries)
+        entries = iter(node)
+        for change in (lambda: node.accept("A"), lambda: node.forget("none"), lambda: node.upgrade(Tables.open(*V2)), lambda: node.message("A")):
+            next(entries)
+            change()
+        self.assertEqual((list(entries), next(entries, None), list(reversed(node))), ([], None, node[::-1]))
+        self.assertEqual([entry.string for entry in node], ["A", MARKED, "f", "i"])
+        self.assertEqual((iter(node).__length_hint__(), len(list(iter(node)))), (4, 4))
 
 
 class Pages(unittest.TestCase):

@@ -16,6 +16,7 @@ from server import HERE, LIBRARIES, installed, own, run
 from test_attacks import Attacks, Missing, Preloaded
 from test_bounds import Bounds, Memory
 from test_extension import Extension
+from test_moving import Moving
 from test_page import Page
 from test_record import Dumps, Ends, Standby, Upgrades
 from test_rights import Rights

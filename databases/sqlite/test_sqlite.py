@@ -11,10 +11,11 @@ import unittest
 from test_dumps import Dumps, Opened
 from test_keys import Functions, Indexes
 from test_memory import Memory
+from test_moving import Moving
 from test_raises import Files, Raises, Waits
 from test_replaced import Attached, Looks, Replaced
 
-__all__ = ["Attached", "Dumps", "Files", "Functions", "Indexes", "Looks", "Memory", "Opened", "Raises", "Replaced", "Waits"]
+__all__ = ["Attached", "Dumps", "Files", "Functions", "Indexes", "Looks", "Memory", "Moving", "Opened", "Raises", "Replaced", "Waits"]
 
 if __name__ == "__main__":
     result = unittest.main(argv=sys.argv[:1] + sys.argv[3:], exit=False, verbosity=0).result

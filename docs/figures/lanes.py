@@ -84,14 +84,14 @@ class Figure:
 
 
 def histories():
-    """Two nodes that exchange, save, upgrade and restart."""
+    """Two nodes that exchange, save, upgrade and restart. U+FB01 is written so, since fonts draw it as its two letters."""
     figure = Figure("Two nodes under NFKC that exchange, save, upgrade, restart and forget")
     figure.box("image", 2.5, 0, "image: fa / fa\nneeds version 0's count", "note")
-    for at, (version, kept) in enumerate(((0, "no entries"), (0, "fa / fa"), (0, "fa / fa, \ufb01 / fi"), (1, "fa / fa, \ufb01 / fi"), (1, "fa / fa"))):
+    for at, (version, kept) in enumerate(((0, "no entries"), (0, "fa / fa"), (0, "fa / fa, U+FB01 / fi"), (1, "fa / fa, U+FB01 / fi"), (1, "fa / fa"))):
         figure.box(f"home{at}", at, 1, f"node 0, version {version}\n{kept}")
-    for at, kept in enumerate(("no entries", "fa / fa", "fa / fa, \ufb01 / fi", "\ufb01 / fi")):
+    for at, kept in enumerate(("no entries", "fa / fa", "fa / fa, U+FB01 / fi", "U+FB01 / fi")):
         figure.box(f"away{at}", at, 2, f"node 1, version 1\n{kept}")
-    for at, label in enumerate(("accept fa", "accept \ufb01", "upgrade:\nkeys stay", "restart")):
+    for at, label in enumerate(("accept fa", "accept\nU+FB01", "upgrade:\nkeys stay", "restart")):
         figure.across(f"home{at}", f"home{at + 1}", label)
     for at, label in enumerate(("deliver", "deliver", "forget fa")):
         figure.across(f"away{at}", f"away{at + 1}", label)

@@ -13,6 +13,8 @@
 /* a, circumflex, dot below; and its key under NFC. */
 #define NAME "a\xcc\x82\xcc\xa3"
 #define KEY "\xe1\xba\xad"
+/* U+FFFFD, which no version assigns. */
+#define UNASSIGNED "\xf3\xbf\xbf\xbd"
 
 /* ---- memory that is refused: the C library's own calls stand behind these. */
 
@@ -265,6 +267,35 @@ static void check_refusals(npss_handle *old, npss_handle *new) {
     CHECK("nothing is lost behind a refusal", live == blocks);
 }
 
+/* What takes no memory: with each allocation refused it answers as with memory. */
+static void check_without_memory(npss_handle *old, npss_handle *new) {
+    static const char message[] = "C\0\0\0\5" NAME "\0\0\0\3" KEY, other[] = "D\0\0\0\1a\0\0\0\1a";
+    static const char later[] = "C\0\0\0\4" UNASSIGNED "\0\0\0\4" UNASSIGNED;
+    static const char ascii[] = "aAfiafAfiaAfaifAfiAaaffiAAafia";
+    const uint8_t *name = (const uint8_t *)NAME, *text = (const uint8_t *)ascii, *told = (const uint8_t *)message;
+    const size_t length = sizeof NAME - 1, whole = sizeof message - 1, letters = sizeof ascii - 1;
+    uint8_t room[256];
+    npss_node node = {0};
+    CHECK("a node", npss_node_new(&node, old, NPSS_NFC, 9).status == NPSS_DONE && npss_node_accept(&node, name, length).status == NPSS_DONE);
+    CHECK("a name that changes", npss_key(old, NPSS_NFC, name, length, room, sizeof room).status == NPSS_DONE);
+    left = 0;
+    CHECK("the next one without memory", ended(npss_key(old, NPSS_NFC, name, length, room, sizeof room), NPSS_DONE, sizeof KEY - 1));
+    CHECK("a text of ASCII without memory", ended(npss_key(old, NPSS_NFC, text, letters, room, sizeof room), NPSS_DONE, letters));
+    CHECK("a cut message without memory", npss_node_take(&node, told, whole - 1).status == NPSS_MALFORMED);
+    CHECK("a message of another form without memory", npss_node_take(&node, (const uint8_t *)other, sizeof other - 1).status == NPSS_OTHER_FORM);
+    CHECK("a message of a later version without memory", npss_node_take(&node, (const uint8_t *)later, sizeof later - 1).status == NPSS_UNASSIGNED);
+    CHECK("a known message without memory", npss_node_take(&node, told, whole).status == NPSS_KNOWN);
+    CHECK("a known string without memory", npss_node_accept(&node, name, length).status == NPSS_KNOWN);
+    CHECK("an unassigned string without memory", npss_node_accept(&node, (const uint8_t *)UNASSIGNED, 4).status == NPSS_UNASSIGNED);
+    CHECK("an upgrade without memory", npss_node_upgrade(&node, new).status == NPSS_DONE);
+    CHECK("a message told without memory", ended(npss_node_message(&node, name, length, room, sizeof room), NPSS_DONE, whole));
+    CHECK("a key told without memory", ended(npss_node_key(&node, name, length, room, sizeof room), NPSS_DONE, sizeof KEY - 1));
+    CHECK("forgetting without memory", npss_node_forget(&node, name, length).status == NPSS_DONE);
+    CHECK("no more of it without memory", npss_node_same(&node, name, length, name, length).status == NPSS_NOT_KEPT);
+    left = -1;
+    npss_node_close(&node);
+}
+
 /* The memory of a long text is given back, and so is that of each thing that is closed or opened anew. */
 static void check_given_back(npss_handle *old, npss_handle *new) {
     enum { LONG = 1 << 20 };
@@ -302,6 +333,7 @@ int main(int argc, char **argv) {
         check_stream(&old, at_end);
     }
     check_refusals(&old, &new);
+    check_without_memory(&old, &new);
     check_given_back(&old, &new);
     npss_close(&old);
     npss_close(&new);

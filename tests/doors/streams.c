@@ -145,6 +145,28 @@ static void check_long(npss_handle *h, const char *unit, size_t length) {
     free(whole);
 }
 
+/* A text of more than 4 GiB: places count on, and a refusal tells one beyond. */
+static void check_far(npss_handle *h) {
+    enum { PIECE = 1 << 24, PIECES = 257 };
+    uint8_t *piece = malloc(PIECE), *room = malloc(PIECE);
+    uint64_t taken = 0;
+    npss_stream stream = {0};
+    memset(piece, 'a', PIECE);
+    CHECK("new", npss_stream_new(&stream, h, NPSS_NFC).status == NPSS_DONE);
+    for (int i = 0; i < PIECES; i++) {
+        CHECK("a piece of a very long text", npss_stream_feed(&stream, piece, PIECE).status == NPSS_DONE);
+        taken += npss_stream_take(&stream, room, PIECE).length;
+    }
+    const uint64_t place = (uint64_t)PIECE * PIECES;
+    CHECK("all but its end was taken", place - taken <= 1);
+    CHECK("no character beyond 4 GiB", is(npss_stream_feed(&stream, TEXT("\xff")), NPSS_NOT_UTF8, 0, 0, place, 0));
+    CHECK("a character beyond 4 GiB", npss_stream_feed(&stream, TEXT(LATER)).status == NPSS_DONE);
+    CHECK("unassigned beyond 4 GiB", is(npss_stream_finish(&stream), NPSS_UNASSIGNED, 0, 0x16D67, place, place - taken + 4));
+    npss_stream_close(&stream);
+    free(piece);
+    free(room);
+}
+
 int main(int argc, char **argv) {
     if (argc != 4) return 2;
     const size_t length = strtoul(argv[3], NULL, 10);
@@ -161,6 +183,7 @@ int main(int argc, char **argv) {
     check_long(&handle, "aaAf", length);
     check_long(&handle, MARKED "f\xe2\x84\xab", length);
     check_long(&handle, "\xcc\x81\xcc\xa3", length / 10);
+    if (length > 1000000) check_far(&handle);
     npss_stream stream = {0};
     CHECK("new", npss_stream_new(&stream, &handle, NPSS_NFKC).status == NPSS_DONE);
     npss_close(&handle);

@@ -27,7 +27,11 @@ static inline int data_of(PyObject *data, bytes *found) {
         found->owner = data;
     } else {
         PyObject *view = PyMemoryView_FromObject(data);
-        if (!view) return -1; /* a TypeError */
+        if (!view) {
+            if (PyErr_ExceptionMatches(PyExc_TypeError))
+                PyErr_Format(PyExc_TypeError, "bytes are wanted, not %R", (PyObject *)Py_TYPE(data));
+            return -1;
+        }
         found->owner = PyBytes_FromObject(view);
         Py_DECREF(view);
         if (!found->owner) return -1;

@@ -1,18 +1,9 @@
 /* Nodes: strings beside their keys, told to others and saved. */
-#include "arguments.h"
+#include "nodes.h"
 
 #define MOST_ROOM 65536
 /* Behind the form and the length of a message stands its string (docs/FORMATS.md, "Message"). */
 #define MESSAGE_STRING 5
-
-typedef struct node {
-    PyObject_HEAD
-    const module_state *state;
-    npss_node node;
-    PyObject *tables;
-    uint8_t form;
-    uint32_t room;
-} node;
 
 /* ---- making one */
 
@@ -100,6 +91,7 @@ static PyObject *node_restore(PyObject *class, PyObject *const *given, Py_ssize_
 
 static void node_dealloc(PyObject *self) {
     PyTypeObject *class = Py_TYPE(self);
+    if (((node *)self)->weak) PyObject_ClearWeakRefs(self);
     npss_node_close(&((node *)self)->node);
     Py_XDECREF(((node *)self)->tables);
     ((freefunc)PyType_GetSlot(class, Py_tp_free))(self);
@@ -109,10 +101,11 @@ static void node_dealloc(PyObject *self) {
 /* ---- strings and messages that come */
 
 /* Kept or known, which an answer tells. */
-static PyObject *accepted(const module_state *state, npss_answer a, const uint8_t *text) {
+static PyObject *accepted(node *self, npss_answer a, const uint8_t *text) {
     PyObject *told;
-    if (a.status != NPSS_DONE && a.status != NPSS_KNOWN) return refuse(state, a, text);
-    told = state->of[a.status == NPSS_DONE ? KEPT : KNOWN];
+    if (a.status != NPSS_DONE && a.status != NPSS_KNOWN) return refuse(self->state, a, text);
+    self->changes += a.status == NPSS_DONE;
+    told = self->state->of[a.status == NPSS_DONE ? KEPT : KNOWN];
     Py_INCREF(told);
     return told;
 }
@@ -122,7 +115,7 @@ static PyObject *node_accept(PyObject *of, PyObject *given) {
     PyObject *told;
     bytes string;
     if (string_of(given, &string)) return NULL;
-    told = accepted(self->state, npss_node_accept(&self->node, string.at, (size_t)string.length), string.at);
+    told = accepted(self, npss_node_accept(&self->node, string.at, (size_t)string.length), string.at);
     let_go(&string);
     return told;
 }
@@ -132,8 +125,7 @@ static PyObject *node_take(PyObject *of, PyObject *given) {
     PyObject *told;
     bytes message;
     if (data_of(given, &message)) return NULL;
-    told = accepted(self->state, npss_node_take(&self->node, message.at, (size_t)message.length),
-                    message.at + MESSAGE_STRING);
+    told = accepted(self, npss_node_take(&self->node, message.at, (size_t)message.length), message.at + MESSAGE_STRING);
     let_go(&message);
     return told;
 }
@@ -146,6 +138,7 @@ static PyObject *node_forget(PyObject *of, PyObject *given) {
     a = npss_node_forget(&self->node, string.at, (size_t)string.length);
     let_go(&string);
     if (a.status != NPSS_DONE && a.status != NPSS_NOT_KEPT) return refuse(self->state, a, NULL);
+    self->changes += a.status == NPSS_DONE;
     return PyBool_FromLong(a.status == NPSS_DONE);
 }
 
@@ -274,7 +267,7 @@ static PyObject *node_same(PyObject *of, PyObject *const *given, Py_ssize_t coun
     return PyBool_FromLong(a.status == NPSS_DONE);
 }
 
-static Py_ssize_t node_length(PyObject *self) {
+Py_ssize_t node_length(PyObject *self) {
     return (Py_ssize_t)npss_node_count(&((node *)self)->node).length;
 }
 
@@ -297,7 +290,7 @@ static PyObject *entry_of(const module_state *state, const uint8_t *room, npss_a
 }
 
 /* Entry number `index`, from 0; IndexError where there is none. */
-static PyObject *node_item(PyObject *self, Py_ssize_t index) {
+PyObject *node_item(PyObject *self, Py_ssize_t index) {
     asked entry = {ENTRY, (node *)self, {NULL, 0, NULL}, (uint64_t)index};
     uint8_t small[SMALL_ROOM], *room;
     PyObject *found = NULL;
@@ -435,12 +428,15 @@ static const char doc[] =
     "many are kept, `string in node` whether one is; node[i] and iteration give each Entry(string, key). A refusal is a\n"
     "Refused, and leaves the node as it was. A node serves one thread at a time.";
 
+static PyMemberDef members[] = WEAK_MEMBERS(node);
+
 static PyType_Slot slots[] = {
     {Py_tp_doc, (void *)doc},
     {Py_tp_new, node_new},
     {Py_tp_dealloc, node_dealloc},
     {Py_tp_repr, node_repr},
-    {Py_tp_iter, PySeqIter_New},
+    {Py_tp_iter, node_iterator},
+    {Py_tp_members, members},
     {Py_tp_methods, methods},
     {Py_tp_getset, properties},
     {Py_mp_length, node_length},

@@ -46,6 +46,7 @@ static int begin(PyObject *module) {
         return -1;
     if (add_type(module, state, TABLES_TYPE, "Tables", PyType_FromModuleAndSpec(module, &tables_spec, NULL)) ||
         add_type(module, state, NODE_TYPE, "Node", PyType_FromModuleAndSpec(module, &node_spec, NULL)) ||
+        !(state->of[NODE_ITERATOR_TYPE] = PyType_FromModuleAndSpec(module, &node_iterator_spec, NULL)) ||
         add_type(module, state, STREAM_TYPE, "Stream", PyType_FromModuleAndSpec(module, &stream_spec, NULL)))
         return -1;
     return 0;

@@ -6,7 +6,9 @@
 #define Py_LIMITED_API 0x030A0000
 #include <Python.h>
 #include <npss.h>
+#include <stddef.h>
 #include <string.h>
+#include <structmember.h>
 
 /* Texts of more bytes are worked on without the interpreter's lock. */
 #define LONG_TEXT 4096
@@ -42,6 +44,7 @@ enum member {
     /* The module's own types. */
     TABLES_TYPE,
     NODE_TYPE,
+    NODE_ITERATOR_TYPE,
     STREAM_TYPE,
     MEMBERS
 };
@@ -53,6 +56,7 @@ typedef struct module_state {
 typedef struct tables {
     PyObject_HEAD
     const module_state *state;
+    PyObject *weak; /* the weak references to it */
     npss_handle handle;
     uint64_t keeps_ascii; /* under which forms each text of ASCII is its own key: `bit_of` each */
 } tables;
@@ -64,7 +68,13 @@ typedef struct bytes {
     PyObject *owner;
 } bytes;
 
-extern PyType_Spec tables_spec, node_spec, stream_spec;
+extern PyType_Spec tables_spec, node_spec, node_iterator_spec, stream_spec;
+
+/* The members of a type whose objects may have weak references, which stand in `weak`. */
+#define WEAK_MEMBERS(type)                                                                  \
+    {                                                                                       \
+        {"__weaklistoffset__", T_PYSSIZET, offsetof(type, weak), READONLY, NULL}, {NULL, 0, 0, 0, NULL}, \
+    }
 
 /* The exception of an answer that is not done; NULL where an error was raised. `text` has the bytes in which a place counts. */
 PyObject *refusal(const module_state *state, npss_answer a, const uint8_t *text);

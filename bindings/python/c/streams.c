@@ -4,6 +4,7 @@
 typedef struct stream {
     PyObject_HEAD
     const module_state *state;
+    PyObject *weak; /* the weak references to it */
     npss_stream stream;
     PyObject *unassigned; /* NULL until the stream is finished */
     int is_busy;          /* a thread is within the library, without the interpreter's lock */
@@ -30,6 +31,7 @@ PyObject *tables_stream(PyObject *of, PyObject *const *given, Py_ssize_t count, 
 
 static void stream_dealloc(PyObject *self) {
     PyTypeObject *class = Py_TYPE(self);
+    if (((stream *)self)->weak) PyObject_ClearWeakRefs(self);
     npss_stream_close(&((stream *)self)->stream);
     Py_XDECREF(((stream *)self)->unassigned);
     ((freefunc)PyType_GetSlot(class, Py_tp_free))(self);
@@ -127,9 +129,12 @@ static const char doc[] = "The normal form of a text that comes in pieces. Table
                           "    out.write(stream.finish())\n"
                           "    if stream.unassigned is None: ...  # what was written is a key";
 
+static PyMemberDef members[] = WEAK_MEMBERS(stream);
+
 static PyType_Slot slots[] = {
     {Py_tp_doc, (void *)doc},
     {Py_tp_dealloc, stream_dealloc},
+    {Py_tp_members, members},
     {Py_tp_methods, methods},
     {Py_tp_getset, properties},
     {0, NULL},

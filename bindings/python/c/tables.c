@@ -127,6 +127,8 @@ static PyObject *tables_keys(PyObject *of, PyObject *const *given, Py_ssize_t co
     PyObject *taken[2], *iterator, *text, *keys;
     Py_ssize_t number = 0;
     if (take(given, count, words, names, 1, taken) || form_of(self->state, taken[1], &key.asked.form)) return NULL;
+    if (PyUnicode_Check(taken[0]))
+        return PyErr_Format(PyExc_TypeError, "many texts are wanted, as a list of them; key makes the key of one str");
     if (!(iterator = PyObject_GetIter(taken[0]))) return NULL;
     keys = PyList_New(0);
     while (keys && (text = PyIter_Next(iterator))) {
@@ -359,8 +361,20 @@ static PyObject *tables_reduce(PyObject *self, PyObject *unused) {
                         "a Tables isn't pickled: hand over the names of its two files, and call Tables.open there");
 }
 
+/* Tables never change, so a copy of them is they themselves. */
+static PyObject *tables_copy(PyObject *self, PyObject *unused) {
+    (void)unused;
+    Py_INCREF(self);
+    return self;
+}
+
+static PyObject *tables_repr(PyObject *self) {
+    return PyUnicode_FromFormat("<npss.Tables: %llu code points>", (unsigned long long)npss_count(&((tables *)self)->handle).length);
+}
+
 static void tables_dealloc(PyObject *self) {
     PyTypeObject *type = Py_TYPE(self);
+    if (((tables *)self)->weak) PyObject_ClearWeakRefs(self);
     npss_close(&((tables *)self)->handle);
     ((freefunc)PyType_GetSlot(type, Py_tp_free))(self);
     Py_DECREF(type);
@@ -405,6 +419,8 @@ static PyMethodDef methods[] = {
      "assigned.\n\nWith the tables of an earlier version it tells what a machine that lags behind lacks of a key."},
     {"stream", FAST(tables_stream),
      "stream($self, /, form='nfc')\n--\n\nA Stream, for a text that comes in pieces."},
+    {"__copy__", tables_copy, METH_NOARGS, "__copy__($self, /)\n--\n\nItself, since it never changes."},
+    {"__deepcopy__", tables_copy, METH_O, "__deepcopy__($self, memo, /)\n--\n\nItself, since it never changes."},
     {"__reduce__", tables_reduce, METH_NOARGS, "Raises TypeError: a Tables isn't pickled."},
     {"extends", tables_extends, METH_O,
      "extends($self, older, /)\n--\n\nWhether this version extends an older one, so that keys under the older one stay "
@@ -420,9 +436,13 @@ static PyGetSetDef properties[] = {
     {NULL, NULL, NULL, NULL, NULL},
 };
 
+static PyMemberDef members[] = WEAK_MEMBERS(tables);
+
 static PyType_Slot slots[] = {
     {Py_tp_doc, "The tables of a version of Unicode. Tables.open makes them. One serves all threads."},
     {Py_tp_dealloc, tables_dealloc},
+    {Py_tp_repr, tables_repr},
+    {Py_tp_members, members},
     {Py_tp_methods, methods},
     {Py_tp_getset, properties},
     {0, NULL},

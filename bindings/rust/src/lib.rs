@@ -38,4 +38,6 @@ pub use errors::{
 pub use nodes::{Accepted, Entry, Node, MOST_ROOM};
 pub use streams::{Normalizer, Stream};
 pub use tables::Tables;
-pub use values::{Answers, Break, BreakKind, Form, LineEnd, Mapping, Property, Unassigned};
+pub use values::{
+    Answers, Break, BreakKind, Form, LineEnd, Mapping, NoForm, Property, Unassigned,
+};

@@ -19,14 +19,12 @@ thread_local! {
 
 /// A handle that is opened when it is first wanted. It has cache lines of its own, so that threads don't wait for one
 /// another's.
-#[derive(Debug)]
 #[repr(align(128))]
 struct Slot {
     handle: Mutex<Handle>,
 }
 
 /// Handles on one table.
-#[derive(Debug)]
 pub(crate) struct Pool {
     slots: [Slot; HANDLES],
     /// What other handles are opened from. No call is made on it, so nobody holds it for long.

@@ -15,7 +15,6 @@ pub struct Answer {
 
 /// A handle on a table, a node or a stream; zeros are a closed one.
 #[repr(C)]
-#[derive(Debug)]
 pub struct Handle {
     pub is_open: u8,
     pub held: *mut c_void,

@@ -4,6 +4,7 @@ use crate::errors::{Memory, StreamError};
 use crate::raw::{self, Handle};
 use crate::tables::Tables;
 use crate::values::{Form, Unassigned};
+use std::fmt;
 use std::io::{self, Write};
 
 /// The bytes that are taken from a stream at once.
@@ -28,9 +29,14 @@ const PIECE: usize = 8192;
 /// assert_eq!(made, "\u{e2}a".as_bytes());
 /// # Ok::<(), Box<dyn std::error::Error>>(())
 /// ```
-#[derive(Debug)]
 pub struct Stream {
     handle: Handle,
+}
+
+impl fmt::Debug for Stream {
+    fn fmt(&self, f: &mut fmt::Formatter<'_>) -> fmt::Result {
+        f.debug_struct("Stream").finish_non_exhaustive()
+    }
 }
 
 impl Drop for Stream {

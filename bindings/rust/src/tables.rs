@@ -4,11 +4,20 @@ use crate::errors::{File, KeyError, Memory, OpenError};
 use crate::pool::Pool;
 use crate::raw::{self, Answer, Handle};
 use crate::values::{Answers, Break, BreakKind, Form, LineEnd, Mapping, Property, Unassigned};
+use std::fmt;
 
 /// The tables of a version of Unicode. They serve all threads at once.
-#[derive(Debug)]
 pub struct Tables {
     pub(crate) pool: Pool,
+}
+
+/// Shows how many code points the version assigns.
+impl fmt::Debug for Tables {
+    fn fmt(&self, f: &mut fmt::Formatter<'_>) -> fmt::Result {
+        f.debug_struct("Tables")
+            .field("count", &self.count())
+            .finish_non_exhaustive()
+    }
 }
 
 /// A call that writes what it makes of a text into a room.

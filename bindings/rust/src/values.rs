@@ -1,5 +1,9 @@
 //! What calls take and answer.
 
+use std::error::Error;
+use std::fmt;
+use std::str::FromStr;
+
 /// A normalization form.
 #[derive(Clone, Copy, Debug, PartialEq, Eq)]
 pub enum Form {
@@ -11,6 +15,55 @@ pub enum Form {
     Nfkd,
     /// Compatibility decomposition, then canonical composition.
     Nfkc,
+}
+
+/// The forms by their names.
+const NAMES: [(&str, Form); 4] = [
+    ("nfd", Form::Nfd),
+    ("nfc", Form::Nfc),
+    ("nfkd", Form::Nfkd),
+    ("nfkc", Form::Nfkc),
+];
+
+/// The name in small letters, as the programs have it.
+impl fmt::Display for Form {
+    fn fmt(&self, f: &mut fmt::Formatter<'_>) -> fmt::Result {
+        f.pad(match self {
+            Form::Nfd => "nfd",
+            Form::Nfc => "nfc",
+            Form::Nfkd => "nfkd",
+            Form::Nfkc => "nfkc",
+        })
+    }
+}
+
+/// A word that is the name of no form.
+#[derive(Clone, Copy, Debug, PartialEq, Eq)]
+pub struct NoForm;
+
+impl fmt::Display for NoForm {
+    fn fmt(&self, f: &mut fmt::Formatter<'_>) -> fmt::Result {
+        f.write_str("a form is nfc, nfd, nfkc or nfkd")
+    }
+}
+
+impl Error for NoForm {}
+
+/// The form of a name, in small letters or capitals.
+///
+/// ```
+/// # use npss::{Form, NoForm};
+/// assert_eq!("NFKC".parse(), Ok(Form::Nfkc));
+/// assert_eq!("nfx".parse::<Form>(), Err(NoForm));
+/// assert_eq!(Form::Nfkc.to_string(), "nfkc");
+/// ```
+impl FromStr for Form {
+    type Err = NoForm;
+
+    fn from_str(name: &str) -> Result<Form, NoForm> {
+        let found = NAMES.iter().find(|(one, _)| one.eq_ignore_ascii_case(name));
+        found.map(|(_, form)| *form).ok_or(NoForm)
+    }
 }
 
 impl Form {

@@ -31,7 +31,10 @@ from npss_registry.system_log import failed
 
 # The statuses are those of `npss` where they mean the same.
 DONE, NO, REFUSED, FAULTY, AWAY = 0, 1, 3, 4, 5
-INTERRUPTED = 130
+INTERRUPTED, NOBODY_READS = 130, 141
+# What the places of a command are.
+PLACES = {"store": "the file of the store", "data": "UnicodeData.txt of the version", "exclusions": "its CompositionExclusions.txt", "name": "a name",
+          "left": "a registered name", "right": "another one", "to": "the new file"}
 
 
 def version_of(data: str, exclusions: str) -> Version:
@@ -203,7 +206,7 @@ def parser() -> argparse.ArgumentParser:
     def command(name: str, help: str, *places: str) -> argparse.ArgumentParser:
         one = commands.add_parser(name, help=help, description=help)
         for place in places:
-            one.add_argument(place, metavar=place.upper())
+            one.add_argument(place, metavar=place.upper(), help=PLACES[place])
         return one
 
     one = command("init", "makes a store over a log, which it sets up where nobody has", "store", "data", "exclusions")
@@ -290,13 +293,14 @@ def main(given: Optional[Sequence[str]] = None) -> int:
         status, why = failure_of(error)
     finally:
         os.umask(mask)
-    with contextlib.suppress(OSError):
-        print(failed(why), file=sys.stderr)
+    if why:
+        with contextlib.suppress(OSError):
+            print(failed(why), file=sys.stderr)
     return status
 
 
 def failure_of(error: BaseException) -> tuple[int, str]:
-    """The status of a failure, and a sentence."""
+    """The status of a failure, and a sentence; none where a pipe was closed, which ends all programs quietly."""
     if isinstance(error, Refused):
         return REFUSED, f"{type(error).__name__}: {error}"
     if isinstance(error, (LogAway, StoreAway, InUse, CannotServe)):
@@ -305,7 +309,7 @@ def failure_of(error: BaseException) -> tuple[int, str]:
         return FAULTY, str(error)
     if isinstance(error, BrokenPipeError):
         _drop_output()
-        return AWAY, "the output was closed"
+        return NOBODY_READS, ""
     if isinstance(error, OSError):
         _drop_output()
         return AWAY, f"{error.filename}: {error.strerror}" if error.filename else str(error)

@@ -16,8 +16,8 @@ body { font: 16px/1.5 system-ui, sans-serif; max-width: 60rem; margin: 2rem auto
 td, th { border: 1px solid GrayText; padding: .2rem .6rem; text-align: left; }
 label { display: inline-block; margin: 0 1rem .5rem 0; } label input { display: block; }
 input[type=text] { font: inherit; padding: .2rem .4rem; width: 18rem; max-width: 90vw; box-sizing: border-box; } button { font: inherit; }
-.yes { color: light-dark(#060, #7d7); } .no { color: light-dark(#a00, #f88); } mark { background: #fd6; color: #000; }
-.code { font-family: monospace; unicode-bidi: isolate; direction: ltr; } bdi, .code { overflow-wrap: anywhere; }
+.yes { color: #060; color: light-dark(#060, #7d7); } .no { color: #a00; color: light-dark(#a00, #f88); } mark { background: #fd6; color: #000; }
+.code { font-family: monospace; unicode-bidi: isolate; direction: ltr; } bdi { overflow-wrap: anywhere; } bdi .code { white-space: nowrap; }
 """
 NOTE = ("Names that only look alike are not judged here: letters of two scripts, capitals and small letters, a digit for a "
         "letter are different names.")
@@ -72,7 +72,7 @@ def home(told: Overview) -> str:
 
 def _log(told: Overview) -> str:
     """Whether the log is there, and how old its news is."""
-    age = "" if told.age is None else f" It told its last places {told.age:.0f} s ago."
+    age = "" if told.age is None else f" The log told its last places {told.age:.0f} s ago."
     if told.log_away is not None:
         return f'<p class="no">The log is away, so no name can be claimed: {shown(told.log_away)}.{age}</p>'
     if not told.claims:
@@ -87,8 +87,8 @@ def _lag(row: ShardState) -> str:
 
 
 def _parked(told: Overview) -> str:
-    """The first of the parked names."""
-    return f"<h2>Parked</h2><p>{', '.join(shown(name) for _, name in told.parked)}</p>" if told.parked else ""
+    """The first of the parked names, with their code points: no font has yet what is parked."""
+    return f"<h2>Parked</h2>{table(('name', 'code points'), [(shown(name), _codes(name)) for _, name in told.parked])}" if told.parked else ""
 
 
 def search(name: str, found: Sequence[Registration], refusal: str = "") -> str:

@@ -8,6 +8,10 @@ import threading
 import time
 import unittest
 from pathlib import Path
+
+from npss_registry import pages
+from npss_registry.overview import Overview, ShardState
+
 from cases import YOUNG
 from serving import OTHER, READING, TOKEN, Server, ServingCase, answered, claim, read_all
 
@@ -314,6 +318,12 @@ class Pages(ServingCase):
         for page in (found, told, self.page(server, "/")):
             self.assertIn('<meta name="viewport"', page)
         self.assertNotIn("Search and status", self.page(server, "/"))
+
+    def test_parked_names_have_their_code_points(self):
+        shards = [ShardState(0, 3, 3, 0, 1, 1)]
+        told = pages.home(Overview("ab", "nfkc", 65536, 1024, 5, 1, True, None, None, 2.0, shards, [(0, "A\u0639\U00016d67")]))
+        self.assertIn('<td><bdi>A\u0639\U00016d67</bdi></td><td><span class="code">0041 0639 16D67</span></td>', told)
+        self.assertIn("The log told its last places 2 s ago", told)
 
     @unittest.skipUnless(shutil.which("chromium"), "chromium is not here")
     def test_a_page_in_a_browser(self):

@@ -72,7 +72,17 @@ class Statuses(WordsCase):
             if words[:2] == ("same", "store") and words[3] == "i":
                 self.run_words("claim", "store", "i", "--owner", "x")
             self.sees(status, pattern, *words)
-        self.assertEqual(self.run_words("--version")[:2], (DONE, f"npss-registry {npss.__version__}\n"))
+        self.assertEqual(self.run_words("--version"), (DONE, f"npss-registry {npss.__version__}\n", ""))
+        for words in (("--help",), ("find", "--help")):
+            status, shown, complaints = self.run_words(*words)
+            self.assertEqual((status, complaints, shown[:6]), (DONE, "", "usage:"))
+        self.assertIn("the file of the store", shown)
+
+    def test_the_wrong_word_is_named(self):
+        for words, wrong in ((("fnid", "store"), "'fnid'"), (("init", "store", *OLD, "--form", "nfx"), "'nfx'"), (("list", "store", "--colour"), "--colour")):
+            status, shown, complaints = self.run_words(*words)
+            self.assertEqual((status, shown), (WORDS, ""))
+            self.assertIn(wrong, complaints)
 
     def test_a_full_shard(self):
         self.sees(DONE, "room 0", "init", "store", *OLD, "--room", "0")
@@ -136,7 +146,7 @@ class Statuses(WordsCase):
         store = self.store()
         self.run_words("claim", store, "A", "--owner", "x")
         self.assertEqual(self.run_words("list", store, behind="> /dev/full"), (AWAY, "", "npss-registry: [Errno 28] No space left on device\n"))
-        self.assertIn(self.run_words("list", store, behind="| true; exit ${PIPESTATUS[0]}")[0], (DONE, AWAY))
+        self.assertEqual(self.run_words("list", store, behind="| (exec <&-; sleep 2); exit ${PIPESTATUS[0]}"), (141, "", ""))
         self.assertEqual(self.run_words("list", store, behind=">&-")[0], DONE)
         self.assertEqual(self.run_words("claim", store, YOUNG, "--owner", "x", behind="2>&-")[0], REFUSED)
         self.assertEqual(self.run_words("claim", store, YOUNG, "--owner", "x", behind="2> /dev/full")[0], REFUSED)

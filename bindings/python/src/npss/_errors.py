@@ -28,9 +28,8 @@ class Unassigned(Refused):
         self.index = index
 
     def __str__(self) -> str:
-        if self.index is None:
-            return f"{self.code:04X} at byte {self.place} is not assigned"
-        return f"{self.code:04X} at character {self.index} (byte {self.place}) is not assigned"
+        where = f"byte {self.place}" if self.index is None else f"character {self.index} (byte {self.place})"
+        return f"{self.code:04X} at {where}{'' if self.number is None else f' of text {self.number}'} is not assigned"
 
 
 class TooLong(Refused):
@@ -143,3 +142,8 @@ class BadTables(ValueError):
         if self.line is not None:
             return f"{self.file}: line {self.line}: {self.name}"
         return f"{self.file}: {self.name}"
+
+
+# Users see the package alone.
+for _one in (BadEntry, BadTables, Full, KeyDiffers, Malformed, NotUtf8, OlderTables, OtherForm, Refused, TooLong, Unassigned):
+    _one.__module__ = "npss"

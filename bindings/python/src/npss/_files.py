@@ -14,4 +14,8 @@ def contents(file: File) -> bytes:
     if isinstance(file, (str, os.PathLike)):
         with open(file, "rb") as stream:
             return stream.read(LIMIT + 1)
-    return memoryview(file).tobytes()
+    try:
+        return memoryview(file).tobytes()
+    except TypeError:
+        hint = ": hand over its name, or what it reads" if hasattr(file, "read") else ""
+        raise TypeError(f"a path or bytes are wanted, not {type(file)!r}{hint}") from None
