@@ -36,17 +36,6 @@ pub trait TextMaker {
         ensures refused { IfErr result (refuses self.now (T.model table.now) (string_bytes text)) };
 }
 
-/// Reads the input whole.
-fn read_input<R: Read>(alloc: Global, input: &mut Watched<R>) -> Result<Vec<u8>, TextFault>
-    ensures read { IfOk result (λ bytes. WasRead (stream_of R.remaining input.old input.new) bytes.items) }
-    ensures refused { IfErr result (Wraps TextFault.Input (WasNotRead (stream_of R.remaining input.old input.new))) }
-{
-    match read_whole(alloc, input) {
-        Ok(bytes) => Ok(bytes),
-        Err(fault) => Err(TextFault::Input { fault }),
-    }
-}
-
 /// The text that the bytes write, in the same memory.
 fn text_in(bytes: Vec<u8>) -> Result<String, TextFault>
     ensures text { IfOk result (λ text. string_bytes text ≡ bytes.items) }
@@ -69,8 +58,10 @@ pub fn read_text<R: Read>(alloc: Global, input: &mut Watched<R>) -> Result<Strin
     ensures valid { IfOk result (λ text. IsUtf8 (string_bytes text)) }
     ensures refused { IfErr result (IsNoText (stream_of R.remaining input.old input.new)) }
 {
-    let bytes = read_input(alloc, input)?;
-    text_in(bytes)
+    match read_whole(alloc, input) {
+        Ok(bytes) => text_in(bytes),
+        Err(fault) => Err(TextFault::Input { fault }),
+    }
 }
 
 /// Reads the input, and makes of it what the job makes under the table.
