@@ -1,12 +1,12 @@
 -- What is asked of a code point that folds, and the conditions where there is no fault.
-use Rattle.std.proofs.Common.{◌≡◌, ◌↔◌, ℕ, ◌+◌, ◌<◌, ◌≤◌, ◌&&◌, Bool, true, false, not, List, [], ◌∷◌, length, flat_map, refl, sym, ap, subst, ◌∙◌, inl, inr, arith}
+use Rattle.std.proofs.Common.{◌≡◌, ◌↔◌, ℕ, ◌<◌, ◌≤◌, Bool, true, false, not, List, [], ◌∷◌, length, flat_map, refl, sym, ap, ◌∙◌, inl, inr, arith}
 use Rattle.std.specs.Prelude.{IsTrue, bytes_eq}
 use Rattle.std.specs.List.{list_all}
 use Rattle.std.proofs.lemmas.Bool.{and_parts, both_ways, cases_Bool, cases_lt}
 use Rattle.std.proofs.lemmas.Slice.Eq.{bytes_eq-Decides}
 use Rattle.np_code_points.specs.declared.forms.Form.TheVariants.{Nfkd}
 use Rattle.np_foldings.specs.Foldings.{AreFoldings}
-use Rattle.np_foldings.specs.Lowercases.{Lowercase}
+use Rattle.np_foldings.specs.declared.lowercases.Lowercase.{Lowercase}
 use Rattle.np_versions.specs.Conditions.{IsSound}
 use Rattle.np_versions.specs.Mappings.{IsFullDecomposition, is_final}
 use Rattle.np_versions.specs.Versions.{VersionData, is_assigned}
@@ -18,7 +18,7 @@ use Rattle.np_caseless.specs.Conditions.{IsSoundFolding}
 use Rattle.np_caseless.specs.Faults.{IsFoldedAgain, IsFoldedAgainBy, IsFoldedTooLong}
 use Rattle.np_caseless.specs.Folded.{FoldedVersion, folding_at, is_quiet}
 use Rattle.np_caseless.specs.declared.faults.ConditionFault.TheVariants.{FoldsUnassigned, FoldsToUnassigned, FoldsAgain, FoldedTooLong}
-use Rattle.np_caseless.proofs.KeyLemmas.{IsCaseless-caseless, caseless_is}
+use Rattle.np_caseless.proofs.KeyLemmas.{caseless_is}
 
 -- ---- full decompositions
 
@@ -89,14 +89,14 @@ module _ (v : FoldedVersion) (lowercases : List Lowercase) (none : IsFaultless v
   assigned_where : (c : ℕ) → is_quiet v.foldings c ≡ false → is_assigned v.version c ≡ true
   assigned_where c folds =
       elim (cases_Bool (is_assigned v.version c)) [
-        | inl yes ↦ yes
+        | inl holds ↦ holds
         | inr lacks ↦ absurd (none (FoldsUnassigned c) (record { folds = folds; lacks = lacks }))
       ]
 
   to_assigned_where : (c : ℕ) → is_quiet v.foldings c ≡ false → list_all (is_assigned v.version) (folding_at v.foldings c) ≡ true
   to_assigned_where c folds =
       elim (cases_Bool (list_all (is_assigned v.version) (folding_at v.foldings c))) [
-        | inl yes ↦ yes
+        | inl holds ↦ holds
         | inr lacks ↦ absurd (none (FoldsToUnassigned c) (record { folds = folds; lacks = lacks }))
       ]
 
@@ -108,7 +108,7 @@ module _ (v : FoldedVersion) (lowercases : List Lowercase) (none : IsFaultless v
       → IsFullDecomposition v.version compat (folding_at v.foldings c) full → list_all (is_quiet v.foldings) full ≡ true
   once_where compat c full folds final decomposes =
       elim (cases_Bool (list_all (is_quiet v.foldings) full)) [
-        | inl yes ↦ yes
+        | inl holds ↦ holds
         | inr again ↦ absurd (not_again compat c (record { folds = folds; final = final; full = full; decomposes = decomposes; again = again }))
       ]
 

@@ -1,34 +1,44 @@
 -- Code points that have no fault.
-use Rattle.std.proofs.Common.{◌≡◌, ◌≢◌, ℕ, ◌+◌, ◌<◌, ◌≤◌, ◌⊎◌, ◌&&◌, Bool, true, false, List, [], ◌∷◌, ◌++◌, length, flat_map, Option, Some, None, refl, sym, ap, subst, ◌∙◌, inl, inr, arith}
-use Rattle.std.specs.List.{list_all, slice_get}
+use Rattle.std.proofs.Common.{◌≡◌, ◌≢◌, ℕ, ◌≤◌, ◌⊎◌, ◌&&◌, Bool, true, false, eqb, List, [], ◌∷◌, length, flat_map, Option, Some, None, refl, sym, ap, ◌∙◌, inl, inr, arith}
+use Rattle.std.specs.List.{list_all}
 use Rattle.std.specs.Option.{option_map}
-use Rattle.std.proofs.lemmas.Bool.{both_ways, cases_Bool, and_from}
+use Rattle.std.proofs.lemmas.Bool.{and_from, and_right, both_ways, cases_Bool, eqb-true}
 use Rattle.std.proofs.lemmas.List.{append-nil}
-use Rattle.np_code_points.specs.Hangul.{is_syllable, syllable_pair}
-use Rattle.np_code_points.specs.declared.forms.Form.TheVariants.{Nfd, Nfkd}
-use Rattle.np_forms.specs.inside.CanonicalOrder.{canonical_order}
+use lib.Utf8.{scalar}
+use Rattle.np_code_points.specs.Hangul.{is_syllable}
+use Rattle.np_code_points.specs.declared.forms.Form.TheVariants.{Nfkd}
+use Rattle.np_foldings.specs.Foldings.{AreFoldings}
 use Rattle.np_forms.specs.inside.NormalForms.{decomposed, normal_form}
-use Rattle.np_forms.specs.inside.Syllables.{syllable_parts}
 use Rattle.np_forms.proofs.FormLemmas.{decomposed-final, is_ordered-decomposed}
 use Rattle.np_forms.proofs.OrderLemmas.{length-canonical_order, list_all-canonical_order}
 use Rattle.np_forms.proofs.SyllableLemmas.{full_of-syllable, syllable_parts-two, syllable_parts-three}
-use Rattle.np_ucd.specs.Entries.{Entry, IsRow}
+use Rattle.np_ucd.specs.Entries.{Entry}
 use Rattle.np_versions.specs.Conditions.{IsSound}
-use Rattle.np_versions.specs.Mappings.{is_final}
+use Rattle.np_versions.specs.Mappings.{IsLent, is_final}
 use Rattle.np_versions.specs.Versions.{VersionData, class_of, decomposition_mapping, entry_at, file_mapping, has_hangul, is_empty, is_hangul, mapping_in}
 use Rattle.np_versions.specs.inside.FullDecompositions.{full_of}
-use Rattle.np_versions.proofs.HangulLemmas.{IsJamo, IsLv, PairShape, decomposition_mapping-off, jamo_bare, shape_of, syllable_hangul}
-use Rattle.np_versions.proofs.MappingLemmas.{IsFullDecomposition-flat_map, full_of-final, parts-cases}
+use Rattle.np_versions.proofs.HangulLemmas.{IsJamo, PairShape, decomposition_mapping-off, jamo_bare, shape_of, syllable_hangul}
+use Rattle.np_versions.proofs.MappingLemmas.{IsFullDecomposition-flat_map, full_of-final, full_of-only, full_of-some, parts-cases}
 use Rattle.np_versions.proofs.RowLemmas.{entry_at-row, entry_at-within, place_of_entry}
-use Rattle.np_caseless.specs.Conditions.{IsSoundFolding}
 use Rattle.np_caseless.specs.Faults.{IsFoldedAgain, IsFoldedTooLong}
 use Rattle.np_caseless.specs.Folded.{FoldedVersion, fold_all, is_quiet}
 use Rattle.np_caseless.specs.inside.FirstFaults.{Below, FoldsWell, IsFine, IsFoldingAt, IsOfArithmetic, IsRowAt}
-use Rattle.np_caseless.specs.inside.Keys.{caseless, folded}
+use Rattle.np_caseless.specs.inside.Keys.{caseless}
 use Rattle.np_caseless.proofs.KeyLemmas.{caseless_is}
 use Rattle.np_caseless.proofs.LengthLemmas.{full_of_more}
-use Rattle.np_caseless.proofs.ListedLemmas.{listed}
+use Rattle.np_caseless.proofs.ListedLemmas.{listed, surrogate_quiet}
 use Rattle.np_caseless.proofs.QuietLemmas.{final_weaker, fold_all-quiet}
+
+-- What a table lends nothing for, and is no syllable, has no mapping.
+pub lent_final : (v : VersionData) (c : ℕ) (lent : List ℕ) (none : Bool) → IsSound v → IsLent v true c lent → is_syllable c ≡ false → none ≡ eqb (length lent) 0 → none ≡ true → is_final v true c ≡ true
+lent_final v c lent none sound is plain test h =
+    elim (cases_Bool (is_final v true c)) [
+      | inl final ↦ final
+      | inr counts ↦
+          let full = full_of-only v true sound.shallow c lent (is.full counts (and_right (has_hangul v) (is_syllable c) plain)) in
+          let zero = eqb-true (length lent) 0 (sym test ∙ h) in
+          absurd (omega (arith, ap length full, full_of-some v true c, zero))
+    ]
 
 -- What is quiet has none of the faults that only a code point that folds can have.
 not_again : (v : FoldedVersion) (c : ℕ) → is_quiet v.foldings c ≡ true → ¬ (IsFoldedAgain v c)
@@ -149,6 +159,17 @@ module _ (v : FoldedVersion) (sound : IsSound v.version) where
   mapped : (c : ℕ) → is_final v.version true c ≡ false → decomposition_mapping v.version c ≢ []
   mapped c counts none =
       both_ways (is_final v.version true c) counts (parts-cases v.version true (λ l. is_empty l ≡ true) refl c (ap is_empty none))
+
+  -- a surrogate has no fault
+  surrogate_final : (c : ℕ) → ¬ (scalar c ≡ true) → is_final v.version true c ≡ true
+  surrogate_final c none =
+      elim (cases_Bool (is_final v.version true c)) [
+        | inl final ↦ final
+        | inr counts ↦ absurd (none (sound.mapped_scalar c (mapped c counts)))
+      ]
+
+  pub surrogate_fine : (c : ℕ) → AreFoldings v.foldings → ¬ (scalar c ≡ true) → IsFine v c
+  surrogate_fine c foldings none = plain_fine c (surrogate_quiet v.foldings c foldings.each none) (surrogate_final c none)
 
   mapped_where : (c : ℕ) (t : Bool) → (has_hangul v.version && is_syllable c) ≡ t → is_final v.version true c ≡ false
       → Below (IsRowAt v.version.entries) (length v.version.entries) c ⊎ IsOfArithmetic v c

@@ -1,5 +1,5 @@
 -- The first fault of several code points, and the one that is told.
-use Rattle.std.proofs.Common.{◌≡◌, ◌≢◌, ℕ, ◌+◌, ◌-◌, ◌<◌, ◌≤◌, ◌⊎◌, ◌&&◌, Bool, true, false, List, [], ◌∷◌, length, Option, Some, None, MatchOption, refl, sym, ap, subst, ◌∙◌, inl, inr, arith}
+use Rattle.std.proofs.Common.{◌≡◌, ℕ, ◌+◌, ◌-◌, ◌<◌, ◌≤◌, ◌⊎◌, Bool, true, false, List, Option, Some, None, MatchOption, refl, sym, ap, subst, ◌∙◌, inl, inr, arith}
 use Rattle.std.specs.Prelude.{nat_lt}
 use Rattle.std.specs.List.{slice_get}
 use Rattle.std.specs.Option.{option_map}
@@ -7,15 +7,15 @@ use Rattle.std.proofs.lemmas.Bool.{cases_lt, cases_order, cond-true, cond-false,
 use Rattle.np_code_points.specs.Hangul.{is_syllable}
 use Rattle.np_code_points.proofs.HangulLemmas.{among_bounds}
 use Rattle.np_foldings.specs.Foldings.{Folding}
-use Rattle.np_foldings.specs.Lowercases.{Lowercase}
+use Rattle.np_foldings.specs.declared.lowercases.Lowercase.{Lowercase}
 use Rattle.np_ucd.specs.Entries.{Entry}
 use Rattle.np_versions.specs.inside.FirstFaults.{IsFirst, IsLeastOf}
-use Rattle.np_caseless.specs.ConditionFaults.{HasFault, IsBeforeFault, IsFaultless, IsLeastFault, number_of, place_of}
+use Rattle.np_caseless.specs.ConditionFaults.{HasFault, IsFaultless, IsLeastFault, number_of, place_of}
 use Rattle.np_caseless.specs.Faults.{IsNotFolded}
 use Rattle.np_caseless.specs.Folded.{FoldedVersion}
 use Rattle.np_caseless.specs.declared.faults.ConditionFault.{ConditionFault}
 use Rattle.np_caseless.specs.declared.faults.ConditionFault.TheVariants.{FoldsUnassigned, FoldsToUnassigned, FoldsAgain, FoldedTooLong, NotFolded, Memory}
-use Rattle.np_caseless.specs.inside.FirstFaults.{Below, FoldsWell, IsFaultAt, IsFine, IsFirstFault, IsFirstOf, IsFoldingAt, IsOfArithmetic, IsRowAt, IsSyllableAt, sooner}
+use Rattle.np_caseless.specs.inside.FirstFaults.{Below, FoldsWell, IsFaultAt, IsFine, IsFirstFault, IsFirstOf, IsFoldingAt, IsRowAt, IsSyllableAt, sooner}
 
 -- ---- places
 
@@ -34,6 +34,9 @@ below_here At i c h = (i, omega arith, h)
 
 pub below_more : (At : ℕ → ℕ → Type 0) (i c : ℕ) → Below At i c → Below At (i + 1) c
 below_more At i c h = (h.0, (let lt = h.1 in omega arith), h.2)
+
+pub syllable_place : (c : ℕ) → is_syllable c ≡ true → Below IsSyllableAt 11172 c
+syllable_place c h = let b = among_bounds 0xAC00 11172 c h in (c - 0xAC00, omega arith, omega arith)
 
 module _ (v : FoldedVersion) where
   -- ---- the first fault of code points
@@ -107,9 +110,17 @@ module _ (v : FoldedVersion) where
       of_fewer (λ d. d ≡ e.first) (IsRowAt v.version.entries k) o
       (λ c is. same_some e.first c (sym (ap (option_map (λ (x : Entry). x.first)) at) ∙ is)) h
 
-  -- the syllables
-  syllable_place : (c : ℕ) → is_syllable c ≡ true → Below IsSyllableAt 11172 c
-  syllable_place c h = let b = among_bounds 0xAC00 11172 c h in (c - 0xAC00, omega arith, omega arith)
+  -- of three, where the others have none
+  among_three : (S T U : ℕ → Type 0) (c : ℕ) → S c ⊎ (T c ⊎ U c) → (S c ⊎ T c) ⊎ U c
+  among_three S T U c (inl s) = inl (inl s)
+  among_three S T U c (inr (inl t)) = inl (inr t)
+  among_three S T U c (inr (inr u)) = inr u
+
+  pub of_three : (S T U : ℕ → Type 0) (o p q : Option ConditionFault) → ((c : ℕ) → (S c ⊎ (T c ⊎ U c)) ⊎ IsFine v c) → IsFirstOf v S o → IsFirstOf v T p → IsFirstOf v U q
+      → IsFirstOf v (λ _. Unit {0}) (sooner (sooner o p) q)
+  of_three S T U o p q either h k l =
+      of_all (λ c. S c ⊎ (T c ⊎ U c)) (λ _. Unit {0}) (sooner (sooner o p) q) either
+      (of_both (λ c. S c ⊎ T c) U (λ c. S c ⊎ (T c ⊎ U c)) (sooner o p) q (among_three S T U) (of_both S T (λ c. S c ⊎ T c) o p (λ c both. both) h k) l)
 
   -- ---- the one that is told
 

@@ -1,5 +1,5 @@
 -- The least number of several.
-use Rattle.std.proofs.Common.{◌≡◌, ℕ, ◌+◌, ◌<◌, ◌≤◌, ◌⊎◌, Bool, true, false, leb, Option, Some, None, refl, sym, subst, inl, inr, arith}
+use Rattle.std.proofs.Common.{◌≡◌, ℕ, ◌+◌, ◌⊎◌, Bool, true, false, leb, Option, Some, None, refl, sym, subst, inl, inr, arith}
 use Rattle.std.proofs.lemmas.Bool.{cond-true, cond-false, leb-true, leb-false}
 use Rattle.np_versions.specs.inside.FirstFaults.{IsFirst, IsLeastOf}
 use Rattle.np_caseless.specs.inside.FirstFaults.{Below}

@@ -1,4 +1,6 @@
+pub mod BackwardLemmas
 pub mod ConditionLemmas
+pub mod ExampleLemmas
 pub mod FineLemmas
 pub mod FirstLemmas
 pub mod FoldLemmas

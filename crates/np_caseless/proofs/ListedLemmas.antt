@@ -1,8 +1,7 @@
 -- Only what is listed folds, and no surrogate does.
-use Rattle.std.proofs.Common.{◌≡◌, ℕ, suc, ◌+◌, ◌<◌, ◌⊎◌, Bool, true, false, eqb, List, [], ◌∷◌, length, Some, refl, ap, ◌∙◌, inl, inr, arith}
-use Rattle.std.specs.List.{All, slice_get}
-use Rattle.std.specs.Option.{option_map}
-use Rattle.std.proofs.lemmas.Bool.{both_ways, cases_Bool, cond-true, cond-false, eqb-true}
+use Rattle.std.proofs.Common.{◌≡◌, ℕ, zero, suc, ◌+◌, ◌<◌, ◌⊎◌, Bool, true, false, eqb, List, [], ◌∷◌, length, Some, refl, ap, subst, ◌∙◌, inl, inr, arith}
+use Rattle.std.specs.List.{All}
+use Rattle.std.proofs.lemmas.Bool.{both_ways, cases_Bool, cases_lt, cond-false, eqb-true}
 use Rattle.std.proofs.lemmas.List.Elements.{All-head, All-tail}
 use Rattle.std.proofs.lemmas.Slice.Eq.{bytes_eq-Decides}
 use lib.Utf8.{scalar}
@@ -38,11 +37,20 @@ listed_scalar [] k c each at = cc
 listed_scalar (f ∷ fs) zero c each at = let is = (All-head IsFolding f fs each).scalar_code in cc
 listed_scalar (f ∷ fs) (suc k) c each at = listed_scalar fs k c (All-tail IsFolding f fs each) at
 
-pub surrogate_quiet : (fs : List Folding) (c : ℕ) → All IsFolding fs → scalar c ≡ false → is_quiet fs c ≡ true
+pub surrogate_quiet : (fs : List Folding) (c : ℕ) → All IsFolding fs → ¬ (scalar c ≡ true) → is_quiet fs c ≡ true
 surrogate_quiet fs c each none =
     elim (cases_Bool (is_quiet fs c)) [
       | inl quiet ↦ quiet
-      | inr folds ↦ let at = listed fs c folds in absurd (both_ways (scalar c) none (listed_scalar fs at.0 c each at.2))
+      | inr folds ↦ let at = listed fs c folds in absurd (none (listed_scalar fs at.0 c each at.2))
+    ]
+
+-- what holds of each code point that is listed before a place and at it
+pub none_more : (fs : List Folding) (p : ℕ → Bool) (i : ℕ) → ((k d : ℕ) → k < i → IsFoldingAt fs k d → p d ≡ false) → ((d : ℕ) → IsFoldingAt fs i d → p d ≡ false)
+    → (k d : ℕ) → k < i + 1 → IsFoldingAt fs k d → p d ≡ false
+none_more fs p i before here k d lt at =
+    elim (cases_lt k i) [
+      | inl less ↦ before k d less at
+      | inr le ↦ let same : k ≡ i = omega arith in here d (subst (λ n. IsFoldingAt fs n d) same at)
     ]
 
 -- where no code point that is listed passes a test, all that pass are quiet

@@ -1,16 +1,17 @@
 -- Lowercases that lack a folding.
-use Rattle.std.proofs.Common.{◌≡◌, ℕ, ◌+◌, ◌<◌, ◌≤◌, ◌&&◌, Bool, true, false, not, eqb, List, [], ◌∷◌, length, Option, Some, None, refl, sym, ap, subst, ◌∙◌, inl, inr, arith}
+use Rattle.std.proofs.Common.{◌≡◌, ℕ, ◌+◌, ◌<◌, ◌&&◌, Bool, true, false, not, eqb, List, length, get_or, Option, Some, refl, sym, ap, subst, ◌∙◌}
 use Rattle.std.specs.List.{Contains, slice_get}
-use Rattle.std.proofs.lemmas.Bool.{and_from, and_parts, both_ways, eqb-true, eqb-false, ne_eqb, not-true}
-use Rattle.std.proofs.lemmas.Option.{get_or_from_slice_get, slice_get-get_or, slice_get_within}
-use Rattle.np_foldings.specs.Lowercases.{Lowercase}
+use Rattle.std.proofs.lemmas.Bool.{and_from, and_left, and_parts, and_right, both_ways, eq-eqb, eqb-false, ne_eqb, not-true}
+use Rattle.std.proofs.lemmas.Option.{get_or_from_slice_get, slice_get-get_or}
+use Rattle.np_foldings.specs.declared.lowercases.Lowercase.{Lowercase}
 use Rattle.np_versions.specs.inside.FirstFaults.{IsFirst}
 use Rattle.np_versions.specs.Versions.{is_assigned}
 use Rattle.np_caseless.specs.Faults.{IsNotFolded}
 use Rattle.np_caseless.specs.Folded.{FoldedVersion, is_quiet}
 use Rattle.np_caseless.specs.inside.FirstFaults.{Below}
 use Rattle.np_caseless.specs.inside.Unfolded.{IsUnfoldedAt, lacks_folding}
-use Rattle.np_caseless.proofs.LeastLemmas.{first_alike}
+use Rattle.np_caseless.specs.inside.Leasts.{least}
+use Rattle.np_caseless.proofs.LeastLemmas.{first_alike, first_grown, first_kept}
 
 module _ (v : FoldedVersion) (lowercases : List Lowercase) where
   record Lacks (pair : Lowercase) : Type 0 where
@@ -36,6 +37,26 @@ module _ (v : FoldedVersion) (lowercases : List Lowercase) where
   unfolding lacks_folding
   lacks_from pair h =
       and_from _ _ (and_from _ _ (and_from _ _ (ap not (ne_eqb pair.lower pair.code h.other)) h.assigned) h.stays) h.lower_stays
+
+  -- by its parts
+  pub lacks_same : (pair : Lowercase) → pair.lower ≡ pair.code → lacks_folding v pair ≡ false
+  unfolding lacks_folding
+  lacks_same pair e = and_left _ _ (and_left _ _ (and_left _ _ (ap not (eq-eqb pair.lower pair.code e))))
+
+  pub lacks_unassigned : (pair : Lowercase) → is_assigned v.version pair.lower ≡ false → lacks_folding v pair ≡ false
+  unfolding lacks_folding
+  lacks_unassigned pair lacks = and_left _ _ (and_left _ _ (and_right (not (eqb pair.lower pair.code)) _ lacks))
+
+  pub lacks_quiet : (pair : Lowercase) → is_quiet v.foldings pair.code ≡ false → lacks_folding v pair ≡ false
+  unfolding lacks_folding
+  lacks_quiet pair folds =
+      and_left _ _ (and_right (not (eqb pair.lower pair.code) && is_assigned v.version pair.lower) (is_quiet v.foldings pair.code) folds)
+
+  pub lacks_last : (pair : Lowercase) → (pair.lower ≡ pair.code → ⊥) → is_assigned v.version pair.lower ≡ true → is_quiet v.foldings pair.code ≡ true
+      → lacks_folding v pair ≡ is_quiet v.foldings pair.lower
+  unfolding lacks_folding
+  lacks_last pair other assigned stays =
+      ap (λ (b : Bool). b && is_quiet v.foldings pair.lower) (and_from _ _ (and_from _ _ (ap not (ne_eqb pair.lower pair.code other)) assigned) stays)
 
   listed_at : (c : ℕ) → Below (IsUnfoldedAt v lowercases) (length lowercases) c → IsNotFolded v lowercases c
   listed_at c h =
@@ -75,3 +96,20 @@ module _ (v : FoldedVersion) (lowercases : List Lowercase) where
   pub unfolded_none : (k : ℕ) (pair : Lowercase) → slice_get lowercases k ≡ Some pair → lacks_folding v pair ≡ false → (c : ℕ) → ¬ (IsUnfoldedAt v lowercases k c)
   unfolded_none k pair at lacks c h =
       let same = same_pair pair h.0 (sym at ∙ h.1) in both_ways (lacks_folding v pair) lacks (ap (lacks_folding v) (sym same) ∙ h.3)
+
+  -- one more
+  pub pair_counts : (first o : Option ℕ) (i : ℕ) (d : Lowercase) (lacks : Bool) → i < length lowercases → IsFirst (Below (IsUnfoldedAt v lowercases) i) first
+      → lacks ≡ lacks_folding v (get_or lowercases i d) → lacks ≡ true → o ≡ least first (get_or lowercases i d).code → IsFirst (Below (IsUnfoldedAt v lowercases) (i + 1)) o
+  pair_counts first o i d lacks lt h test found same =
+      let pair = get_or lowercases i d in
+      let at = slice_get-get_or lowercases i d lt in
+      subst (IsFirst (Below (IsUnfoldedAt v lowercases) (i + 1))) (sym same)
+      (first_grown (IsUnfoldedAt v lowercases) i first pair.code h (unfolded_here i pair at (sym test ∙ found)) (unfolded_only i pair at))
+
+  pub pair_passes : (first o : Option ℕ) (i : ℕ) (d : Lowercase) (lacks : Bool) → i < length lowercases → IsFirst (Below (IsUnfoldedAt v lowercases) i) first
+      → lacks ≡ lacks_folding v (get_or lowercases i d) → lacks ≡ false → o ≡ first → IsFirst (Below (IsUnfoldedAt v lowercases) (i + 1)) o
+  pair_passes first o i d lacks lt h test passes same =
+      let pair = get_or lowercases i d in
+      let at = slice_get-get_or lowercases i d lt in
+      subst (IsFirst (Below (IsUnfoldedAt v lowercases) (i + 1))) (sym same)
+      (first_kept (IsUnfoldedAt v lowercases) i first h (unfolded_none i pair at (sym test ∙ passes)))

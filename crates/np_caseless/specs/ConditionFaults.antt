@@ -1,6 +1,6 @@
 -- The faults as `ConditionFault` names them, and which of several is told.
 use Rattle.std.specs.Prelude.{◌≡◌, ℕ, ◌<◌, ◌≤◌, ◌⊎◌, List, Option, Some, None, codes, unwrap_or}
-use Rattle.np_foldings.specs.Lowercases.{Lowercase}
+use Rattle.np_foldings.specs.declared.lowercases.Lowercase.{Lowercase}
 use Rattle.np_caseless.specs.declared.faults.ConditionFault.{ConditionFault}
 use Rattle.np_caseless.specs.declared.faults.ConditionFault.TheVariants.{FoldsUnassigned, FoldsToUnassigned, FoldsAgain, FoldedTooLong, NotFolded, Memory}
 use Rattle.np_caseless.specs.Faults.{IsUnassignedFolded, IsFoldedToUnassigned, IsFoldedAgain, IsFoldedTooLong, IsNotFolded}

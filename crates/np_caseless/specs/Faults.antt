@@ -2,7 +2,7 @@
 use Rattle.std.specs.Prelude.{◌≡◌, ◌≢◌, ℕ, ◌<◌, ◌⊎◌, Bool, true, false, List, [], ◌∷◌, length}
 use Rattle.std.specs.List.{Contains, list_all}
 use Rattle.np_code_points.specs.declared.forms.Form.TheVariants.{Nfkd}
-use Rattle.np_foldings.specs.Lowercases.{Lowercase}
+use Rattle.np_foldings.specs.declared.lowercases.Lowercase.{Lowercase}
 use Rattle.np_versions.specs.Mappings.{IsFullDecomposition, is_final}
 use Rattle.np_versions.specs.Versions.{is_assigned}
 use Rattle.np_caseless.specs.Caseless.{IsCaseless}

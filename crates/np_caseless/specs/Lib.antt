@@ -2,6 +2,7 @@ pub mod Breaks
 pub mod Caseless
 pub mod ConditionFaults
 pub mod Conditions
+pub mod Examples
 pub mod Extension
 pub mod Faults
 pub mod Folded

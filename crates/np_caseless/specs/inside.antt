@@ -1,5 +1,4 @@
 pub mod FirstFaults
-pub mod FoldingChanges
 pub mod Keys
 pub mod Leasts
 pub mod Unfolded

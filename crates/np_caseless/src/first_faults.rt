@@ -1,13 +1,14 @@
 //! The fault that is told of a version with its foldings. Only what folds or has a mapping can have one: so what is listed to
 //! fold, the rows and the syllables are looked at, and not each code point.
-ghost use Rattle.std.specs.Prelude.{◌≡◌, ◌<◌, ℕ, Unit, length, IfOk, MatchOption};
+ghost use Rattle.std.specs.Prelude.{◌≡◌, ◌<◌, ℕ, length, IfOk, MatchOption};
 ghost use Rattle.np_caseless.specs.ConditionFaults.{IsFaultless, IsLeastFault};
 ghost use Rattle.np_caseless.specs.Folded.{folded_by};
-ghost use Rattle.np_caseless.specs.inside.FirstFaults.{Below, IsFirstOf, IsFoldingAt, IsOfArithmetic, IsRowAt};
+ghost use Rattle.np_caseless.specs.inside.FirstFaults.{Below, IsFirstOf, IsFoldingAt, IsOfArithmetic, IsRowAt, lowercase_fault};
 
 use crate::faults::{ConditionFault, sooner};
 use crate::folding_faults::fault_at;
 use crate::not_folded::first_not_folded;
+use crate::quiet::code_at;
 use crate::quiet_hangul::is_hangul_quiet;
 use np_code_points::Memory;
 use np_code_points::hangul::{S_BASE, S_COUNT};
@@ -24,8 +25,8 @@ fn fault_of_folding<T: NormTable>(
 ) -> Result<Option<ConditionFault>, Memory>
     ensures { IfOk result (IsFirstOf (folded_by (T.model table.now) foldings.now) (IsFoldingAt foldings.now at)) }
 {
-    match foldings.get(at) {
-        Some(folding) => fault_at(alloc, table, foldings, u32::from(folding.code)),
+    match code_at(foldings, at) {
+        Some(code) => fault_at(alloc, table, foldings, code),
         None => Ok(None),
     }
 }
@@ -113,6 +114,16 @@ fn first_of_all<T: NormTable>(
     Ok(sooner(sooner(of_foldings, of_rows), of_syllables))
 }
 
+/// The fault of a code point whose lowercase lacks a folding, where there is one.
+fn of_lowercase(not_folded: Option<u32>) -> Option<ConditionFault>
+    ensures { result ≡ lowercase_fault not_folded }
+{
+    match not_folded {
+        Some(code) => Some(ConditionFault::NotFolded { code }),
+        None => None,
+    }
+}
+
 /// The fault at the least code point, and of those there the one with the least number.
 pub(crate) fn first_fault<T: NormTable>(
     alloc: Global,
@@ -126,8 +137,5 @@ pub(crate) fn first_fault<T: NormTable>(
 {
     let fault = first_of_all(alloc, table, foldings)?;
     let not_folded = first_not_folded(table.version(), foldings, lowercases);
-    Ok(sooner(
-        fault,
-        not_folded.map(|code| ConditionFault::NotFolded { code }),
-    ))
+    Ok(sooner(fault, of_lowercase(not_folded)))
 }

@@ -9,7 +9,6 @@ mod first_faults;
 mod folded_again;
 mod folded_tables;
 mod folding;
-mod folding_changes;
 mod folding_faults;
 mod keys;
 pub mod laws;

@@ -14,10 +14,16 @@ use np_versions::Version;
 fn lacks_folding(version: &Version, foldings: &Foldings, pair: Lowercase) -> bool
     ensures { result ≡ lacking (folded_by version.now foldings.now) pair }
 {
-    pair.lower != pair.code
-        && version.assigned_code(pair.lower)
-        && is_quiet_code(foldings, pair.code)
-        && is_quiet_code(foldings, pair.lower)
+    if pair.lower == pair.code {
+        return false;
+    }
+    if !version.assigned_code(pair.lower) {
+        return false;
+    }
+    if !is_quiet_code(foldings, pair.code) {
+        return false;
+    }
+    is_quiet_code(foldings, pair.lower)
 }
 
 /// The least code point whose lowercase is another one and assigned, where neither of the two folds.

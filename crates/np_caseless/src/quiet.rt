@@ -1,5 +1,5 @@
 //! What code points fold to, and those that fold to themselves alone.
-ghost use Rattle.std.specs.Prelude.{◌≡◌};
+ghost use Rattle.std.specs.Prelude.{◌≡◌, option_map, slice_get};
 ghost use Rattle.std.specs.List.{list_all};
 ghost use Rattle.np_caseless.specs.Folded.{folding_at, is_quiet as quiet};
 
@@ -13,6 +13,16 @@ pub(crate) fn folding_of<'t>(foldings: &'t Foldings, code: &'t char) -> &'t [cha
     match foldings.find(*code) {
         Some(mapping) => mapping,
         None => slice::from_ref(code),
+    }
+}
+
+/// The code point whose folding is listed at a place, from 0.
+pub(crate) fn code_at(foldings: &Foldings, at: usize) -> Option<u32>
+    ensures { result ≡ option_map (λ f. f.code) (slice_get foldings.now at) }
+{
+    match foldings.get(at) {
+        Some(folding) => Some(u32::from(folding.code)),
+        None => None,
     }
 }
 

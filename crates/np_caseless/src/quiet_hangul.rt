@@ -1,9 +1,10 @@
 //! Hangul, which folds in no published version.
-ghost use Rattle.std.specs.Prelude.{◌≡◌, ◌||◌, ℕ, true, IsTrue};
+ghost use Rattle.std.specs.Prelude.{◌≡◌, ◌+◌, ◌<◌, ◌||◌, ℕ, true, IsTrue};
 ghost use Rattle.np_code_points.specs.Hangul.{is_among as among};
 ghost use Rattle.np_caseless.specs.Folded.{is_quiet};
 ghost use Rattle.np_versions.specs.Versions.{is_hangul as hangul};
 
+use crate::quiet::code_at;
 use np_code_points::hangul::{L_BASE, L_COUNT, T_BASE, T_COUNT, V_BASE, V_COUNT, is_syllable};
 use np_foldings::Foldings;
 
@@ -30,8 +31,8 @@ pub(crate) fn is_hangul_quiet(foldings: &Foldings) -> bool
     ensures { IsTrue result → (c : ℕ) → hangul c ≡ true → is_quiet foldings.now c ≡ true }
 {
     for at in 0..foldings.len() {
-        if let Some(folding) = foldings.get(at) {
-            if is_hangul(u32::from(folding.code)) {
+        if let Some(code) = code_at(foldings, at) {
+            if is_hangul(code) {
                 return false;
             }
         }

@@ -1,9 +1,10 @@
 -- What the three files of a version say, by what their readers answer.
-use Rattle.std.proofs.Common.{◌≡◌, ◌↔◌, ◌<◌, ◌≤◌, ◌∙◌, ℕ, true, false, List, Option, Some, None, length, Result, Ok, Err, IfOk, IfErr, IfSome, ap, arith, inl, inr, refl, sym, subst}
+use Rattle.std.proofs.Common.{◌≡◌, ◌↔◌, ◌≤◌, ◌∙◌, ℕ, true, false, List, Option, Some, length, is_some, ap, arith, inl, inr, sym, subst}
 use Rattle.std.proofs.lemmas.Bool.{false≢true}
 use Rattle.np_code_points.specs.Inputs.{IsReadWhole}
 use Rattle.np_code_points.specs.Watched.{device_of, has_failed}
 use Rattle.np_code_points.specs.declared.channels.watched.Watched.{Watched}
+use Rattle.np_ucd.specs.Faults.{line_of}
 use Rattle.np_ucd.specs.FirstFaults.{IsFirstFault}
 use Rattle.np_ucd.specs.Reading.{IsRefused}
 use Rattle.np_ucd.specs.declared.faults.UcdFault.{UcdFault}
@@ -13,50 +14,60 @@ use Rattle.np_jobs.specs.Streams.{Stream, IsUntouched, WasRead, stream_of}
 use Rattle.np_jobs.specs.Versions.{WasRefused}
 use Rattle.np_caseless_job.specs.FoldedVersions.{AreUnread, FoldedReaders, folded_readers_of}
 use Rattle.np_caseless_job.specs.declared.files.OpenFiles.{OpenFiles}
+use Rattle.np_caseless_job.specs.inside.FoldingSteps.{IsFaultIn}
 use Rattle.np_caseless_job.specs.inside.PairSteps.{AreCleared}
 
--- what stands behind the bytes of a data file that were read
+-- ---- the bytes of a data file
+
+-- a fault that has a line, of bytes that were read whole
+pub is_first : (bytes : List ℕ) (after : Option (List ℕ)) (fault : UcdFault) → is_some (line_of fault) ≡ true → IsRefused IsFirstFault (Some bytes) after fault → IsFirstFault bytes fault
+is_first bytes after (FieldCount line) lined h = subst (λ (bs : List ℕ). IsFirstFault bs (FieldCount line)) h.1.whole h.2
+is_first bytes after (BadCode line) lined h = subst (λ (bs : List ℕ). IsFirstFault bs (BadCode line)) h.1.whole h.2
+is_first bytes after (OutOfOrder line) lined h = subst (λ (bs : List ℕ). IsFirstFault bs (OutOfOrder line)) h.1.whole h.2
+is_first bytes after (BadCategory line) lined h = subst (λ (bs : List ℕ). IsFirstFault bs (BadCategory line)) h.1.whole h.2
+is_first bytes after (BadClass line) lined h = subst (λ (bs : List ℕ). IsFirstFault bs (BadClass line)) h.1.whole h.2
+is_first bytes after (BadMapping line) lined h = subst (λ (bs : List ℕ). IsFirstFault bs (BadMapping line)) h.1.whole h.2
+is_first bytes after (RangeOpen line) lined h = subst (λ (bs : List ℕ). IsFirstFault bs (RangeOpen line)) h.1.whole h.2
+is_first bytes after (RangeLone line) lined h = subst (λ (bs : List ℕ). IsFirstFault bs (RangeLone line)) h.1.whole h.2
+is_first bytes after (RangeDiffers line) lined h = subst (λ (bs : List ℕ). IsFirstFault bs (RangeDiffers line)) h.1.whole h.2
+is_first bytes after (RangeMaps line) lined h = subst (λ (bs : List ℕ). IsFirstFault bs (RangeMaps line)) h.1.whole h.2
+is_first bytes after TooLarge lined h = absurd (cc)
+is_first bytes after ReadFailed lined h = absurd (cc)
+is_first bytes after Memory lined h = absurd (cc)
+
+pub has_line : (fault : UcdFault) (line : ℕ) → Some line ≡ line_of fault → is_some (line_of fault) ≡ true
+has_line fault line is = ap is_some (sym is)
+
+refused_by : (before after : Option (List ℕ)) (bytes : List ℕ) (fault : UcdFault) → IsReadWhole before after bytes → is_some (line_of fault) ≡ true → IsFirstFault bytes fault → IsRefused IsFirstFault before after fault
+refused_by before after bytes (FieldCount line) whole lined is = (bytes, whole, is)
+refused_by before after bytes (BadCode line) whole lined is = (bytes, whole, is)
+refused_by before after bytes (OutOfOrder line) whole lined is = (bytes, whole, is)
+refused_by before after bytes (BadCategory line) whole lined is = (bytes, whole, is)
+refused_by before after bytes (BadClass line) whole lined is = (bytes, whole, is)
+refused_by before after bytes (BadMapping line) whole lined is = (bytes, whole, is)
+refused_by before after bytes (RangeOpen line) whole lined is = (bytes, whole, is)
+refused_by before after bytes (RangeLone line) whole lined is = (bytes, whole, is)
+refused_by before after bytes (RangeDiffers line) whole lined is = (bytes, whole, is)
+refused_by before after bytes (RangeMaps line) whole lined is = (bytes, whole, is)
+refused_by before after bytes TooLarge whole lined is = absurd (cc)
+refused_by before after bytes ReadFailed whole lined is = absurd (cc)
+refused_by before after bytes Memory whole lined is = absurd (cc)
+
+-- where the file was read whole, its device did not fail, and that is not the reason
 never : (fault : UcdFault) (file : Stream) → file.failed ≡ false → (fault ≡ ReadFailed → ⊥) → (fault ≡ ReadFailed) ↔ (file.failed ≡ true)
 never fault file clear other = (λ same. absurd (other same), λ bad. absurd (false≢true (sym clear ∙ bad)))
 
-lined : (file : Stream) (bytes : List ℕ) (after : Option (List ℕ)) (fault : UcdFault) → WasRead file bytes
-    → ((others : List ℕ) × IsReadWhole (Some bytes) after others × IsFirstFault others fault) → (others : List ℕ) × IsReadWhole file.before file.after others × IsFirstFault others fault
-lined file bytes after fault was h = (bytes, was.read, subst (λ (bs : List ℕ). IsFirstFault bs fault) h.1.whole h.2)
+has_no_line : (fault : UcdFault) → is_some (line_of fault) ≡ true → fault ≡ ReadFailed → ⊥
+has_no_line fault lined same = let clash : is_some (line_of ReadFailed) ≡ true = subst (λ (f : UcdFault). is_some (line_of f) ≡ true) same lined in absurd (cc)
 
-in_memory : (file : Stream) (bytes : List ℕ) (told : UcdFault) → WasRead file bytes → told ≡ Memory → WasRefused IsFirstFault file told
-in_memory file bytes told was is =
-    let size : length bytes ≤ 16777217 = omega (arith, was.read.size) in
-    subst (WasRefused IsFirstFault file) (sym is) (record { how = (bytes, size, was.read.taken); failed = never Memory file was.clear (λ e. absurd (cc)) })
-
--- a fault of bytes that were read whole is one of their file; that they failed to be read, which they don't, is told as want of memory
-pub refused_bytes : (file : Stream) (bytes : List ℕ) (after : Option (List ℕ)) (fault told : UcdFault) → WasRead file bytes → IsRefused IsFirstFault (Some bytes) after fault
-    → (fault ≡ ReadFailed → told ≡ Memory) → ((fault ≡ ReadFailed → ⊥) → told ≡ fault) → WasRefused IsFirstFault file told
-refused_bytes file bytes after (FieldCount line) told was h failed other =
-    subst (WasRefused IsFirstFault file) (sym (other (λ e. absurd (cc)))) (record { how = lined file bytes after (FieldCount line) was h; failed = never (FieldCount line) file was.clear (λ e. absurd (cc)) })
-refused_bytes file bytes after (BadCode line) told was h failed other =
-    subst (WasRefused IsFirstFault file) (sym (other (λ e. absurd (cc)))) (record { how = lined file bytes after (BadCode line) was h; failed = never (BadCode line) file was.clear (λ e. absurd (cc)) })
-refused_bytes file bytes after (OutOfOrder line) told was h failed other =
-    subst (WasRefused IsFirstFault file) (sym (other (λ e. absurd (cc)))) (record { how = lined file bytes after (OutOfOrder line) was h; failed = never (OutOfOrder line) file was.clear (λ e. absurd (cc)) })
-refused_bytes file bytes after (BadCategory line) told was h failed other =
-    subst (WasRefused IsFirstFault file) (sym (other (λ e. absurd (cc)))) (record { how = lined file bytes after (BadCategory line) was h; failed = never (BadCategory line) file was.clear (λ e. absurd (cc)) })
-refused_bytes file bytes after (BadClass line) told was h failed other =
-    subst (WasRefused IsFirstFault file) (sym (other (λ e. absurd (cc)))) (record { how = lined file bytes after (BadClass line) was h; failed = never (BadClass line) file was.clear (λ e. absurd (cc)) })
-refused_bytes file bytes after (BadMapping line) told was h failed other =
-    subst (WasRefused IsFirstFault file) (sym (other (λ e. absurd (cc)))) (record { how = lined file bytes after (BadMapping line) was h; failed = never (BadMapping line) file was.clear (λ e. absurd (cc)) })
-refused_bytes file bytes after (RangeOpen line) told was h failed other =
-    subst (WasRefused IsFirstFault file) (sym (other (λ e. absurd (cc)))) (record { how = lined file bytes after (RangeOpen line) was h; failed = never (RangeOpen line) file was.clear (λ e. absurd (cc)) })
-refused_bytes file bytes after (RangeLone line) told was h failed other =
-    subst (WasRefused IsFirstFault file) (sym (other (λ e. absurd (cc)))) (record { how = lined file bytes after (RangeLone line) was h; failed = never (RangeLone line) file was.clear (λ e. absurd (cc)) })
-refused_bytes file bytes after (RangeDiffers line) told was h failed other =
-    subst (WasRefused IsFirstFault file) (sym (other (λ e. absurd (cc)))) (record { how = lined file bytes after (RangeDiffers line) was h; failed = never (RangeDiffers line) file was.clear (λ e. absurd (cc)) })
-refused_bytes file bytes after (RangeMaps line) told was h failed other =
-    subst (WasRefused IsFirstFault file) (sym (other (λ e. absurd (cc)))) (record { how = lined file bytes after (RangeMaps line) was h; failed = never (RangeMaps line) file was.clear (λ e. absurd (cc)) })
-refused_bytes file bytes after TooLarge told was h failed other =
-    let more : 16777216 < length bytes = h.more in
-    let size : length bytes ≤ 16777216 = was.read.size in
-    absurd (omega (arith, more, size))
-refused_bytes file bytes after ReadFailed told was h failed other = in_memory file bytes told was (failed refl)
-refused_bytes file bytes after Memory told was h failed other = in_memory file bytes told was (other (λ e. absurd (cc)))
+-- a fault of bytes that were read whole is one of their file
+pub refused_bytes : (file : Stream) (bytes : List ℕ) (fault : UcdFault) → WasRead file bytes → IsFaultIn bytes fault → WasRefused IsFirstFault file fault
+refused_bytes file bytes fault was is = elim is [
+  | inl memory ↦
+      let size : length bytes ≤ 16777217 = omega (arith, was.read.size) in
+      subst (WasRefused IsFirstFault file) (sym memory) (record { how = (bytes, size, was.read.taken); failed = never Memory file was.clear (λ e. absurd (cc)) })
+  | inr (first, lined) ↦ record { how = refused_by file.before file.after bytes fault was.read lined first; failed = never fault file was.clear (has_no_line fault lined) }
+]
 
 -- ---- files whose marks were taken away
 

@@ -1,9 +1,10 @@
 -- How a job reads the three files of a version with its foldings, and builds it.
 use Rattle.std.specs.Prelude.{◌≡◌, ◌↔◌, ◌⊎◌, ℕ, true, List, [], ◌∷◌, Option, Ok}
 use Rattle.np_code_points.specs.Watched.{device_of}
-use Rattle.np_foldings.specs.Faults.{FoldingFault}
+use Rattle.np_foldings.specs.declared.faults.FoldingFault.{FoldingFault}
 use Rattle.np_foldings.specs.Foldings.{Folding as FoldingOf}
-use Rattle.np_foldings.specs.Lowercases.{AreLowercases, Lowercase}
+use Rattle.np_foldings.specs.Lowercases.{AreLowercases}
+use Rattle.np_foldings.specs.declared.lowercases.Lowercase.{Lowercase}
 use Rattle.np_foldings.specs.Reading.{IsRefused}
 use Rattle.np_foldings.specs.Verdicts.{IsVerdict}
 use Rattle.np_foldings.specs.declared.faults.FoldingFault.TheVariants.{ReadFailed}

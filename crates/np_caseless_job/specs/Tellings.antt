@@ -2,7 +2,7 @@
 use Rattle.std.specs.Prelude.{ℕ, List, ◌++◌, codes, is_some, if◌then◌else◌}
 use Rattle.np_code_points.specs.Codes.{code_digits}
 use Rattle.np_foldings.specs.Faults as foldings
-use Rattle.np_foldings.specs.Faults.{FoldingFault}
+use Rattle.np_foldings.specs.declared.faults.FoldingFault.{FoldingFault}
 use Rattle.np_foldings.specs.declared.faults.FoldingFault.TheVariants as Foldings
 use Rattle.np_caseless.specs.Breaks as breaks
 use Rattle.np_caseless.specs.ConditionFaults as conditions

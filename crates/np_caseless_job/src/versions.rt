@@ -1,10 +1,9 @@
 //! The three files of a version, read and built.
-ghost use Rattle.std.specs.Prelude.{◌≡◌, ◌↔◌, ◌⊎◌, IfOk, IfErr, OnErr, true};
-ghost use Rattle.np_caseless_job.specs.FoldedVersions.{HasFoldings, HasLowercases, IsConditionFault, IsFoldedFault, WasFolded, WasFoldingRefused};
-ghost use Rattle.np_caseless_job.specs.FoldedVersions.{folded_readers_of};
-ghost use Rattle.np_caseless_job.specs.inside.FoldingSteps.{HasRowsOf, IsFaultOverBytes, WasFoldedOver};
+ghost use Rattle.std.specs.Prelude.{◌≡◌, IfOk, IfErr, OnOk};
+ghost use Rattle.np_caseless_job.specs.FoldedVersions.{HasFoldings, IsFoldedFault, WasFolded, WasFoldingRefused, folded_readers_of};
+ghost use Rattle.np_caseless_job.specs.inside.FoldingSteps.{IsFaultIn, IsFaultOverBytes, WasFoldedOver};
 ghost use Rattle.np_jobs.specs.Streams.{WasRead, stream_of};
-ghost use Rattle.np_jobs.specs.Versions.{IsVersionFault, WasBuilt, WasRefused};
+ghost use Rattle.np_jobs.specs.Versions.{HasRows, IsFaultOver, IsVersionFault, WasBuilt, WasBuiltOver, WasRefused};
 ghost use Rattle.np_jobs.specs.Wraps.{Wraps};
 ghost use Rattle.np_ucd.specs.AllRows.{AreAllRows};
 ghost use Rattle.np_ucd.specs.FirstFaults.{HasNoFault, IsFirstFault};
@@ -20,49 +19,66 @@ use np_ucd::{RowList, UcdFault, read_row_list};
 use std::alloc::Global;
 use std::io::Read;
 
-/// Why a data file was not read, as a fault of the file.
-fn unread(fault: InputFault) -> UcdFault {
-    match fault {
-        InputFault::TooLarge => UcdFault::TooLarge,
-        InputFault::ReadFailed => UcdFault::ReadFailed,
-        InputFault::Memory => UcdFault::Memory,
+/// The bytes of a data file.
+fn read_data_file<R: Read>(alloc: Global, data_file: &mut Watched<R>) -> Result<Vec<u8>, UcdFault>
+    ensures read { IfOk result (λ bytes. WasRead (stream_of R.remaining data_file.old data_file.new) bytes.items) }
+    ensures refused { IfErr result (WasRefused IsFirstFault (stream_of R.remaining data_file.old data_file.new)) }
+{
+    match read_whole(alloc, data_file) {
+        Ok(bytes) => Ok(bytes),
+        Err(InputFault::TooLarge) => Err(UcdFault::TooLarge),
+        Err(InputFault::ReadFailed) => Err(UcdFault::ReadFailed),
+        Err(InputFault::Memory) => Err(UcdFault::Memory),
     }
 }
 
-/// Why the bytes of a data file, which were read, have no rows. Bytes in memory don't fail to be read.
-fn of_bytes(fault: UcdFault) -> UcdFault {
-    if fault == UcdFault::ReadFailed {
-        UcdFault::Memory
-    } else {
-        fault
+/// The rows of the bytes of a data file. Bytes in memory don't fail to be read, and aren't too large: else it would be told as
+/// want of memory.
+fn rows_in(alloc: Global, bytes: &[u8]) -> Result<RowList, UcdFault>
+    ensures faultless { OnOk result (HasNoFault bytes.now) }
+    ensures rows { IfOk result (AreAllRows bytes.now) }
+    ensures refused { IfErr result (IsFaultIn bytes.now) }
+{
+    match read_row_list(alloc, &mut Watched::new(bytes)) {
+        Ok(rows) => Ok(rows),
+        Err(fault) => match fault.line() {
+            Some(_line) => Err(fault),
+            None => Err(UcdFault::Memory),
+        },
     }
 }
 
 /// Reads a data file: its bytes, and its rows.
 fn read_data<R: Read>(
     alloc: Global,
-    version: usize,
     data_file: &mut Watched<R>,
-) -> Result<(Vec<u8>, RowList), VersionFault>
+) -> Result<(Vec<u8>, RowList), UcdFault>
     ensures read { IfOk result (λ both. WasRead (stream_of R.remaining data_file.old data_file.new) both.0.items) }
-    ensures faultless { IfOk result (λ both. HasNoFault both.0.items) }
-    ensures rows { IfOk result (λ both. AreAllRows both.0.items both.1) }
-    ensures refused { IfErr result (Wraps (VersionFault.Data version) (WasRefused IsFirstFault (stream_of R.remaining data_file.old data_file.new))) }
+    ensures rows { IfOk result (λ both. HasRows (stream_of R.remaining data_file.old data_file.new) both.1) }
+    ensures refused { IfErr result (WasRefused IsFirstFault (stream_of R.remaining data_file.old data_file.new)) }
 {
-    let bytes = match read_whole(alloc, data_file) {
+    let bytes = match read_data_file(alloc, data_file) {
         Ok(bytes) => bytes,
-        Err(fault) => {
-            let fault = unread(fault);
-            return Err(VersionFault::Data { version, fault });
-        }
+        Err(fault) => return Err(fault),
     };
-    match read_row_list(alloc, &mut Watched::new(bytes.as_slice())) {
+    match rows_in(alloc, bytes.as_slice()) {
         Ok(rows) => Ok((bytes, rows)),
-        Err(fault) => {
-            let fault = of_bytes(fault);
-            Err(VersionFault::Data { version, fault })
-        }
+        Err(fault) => Err(fault),
     }
+}
+
+/// Reads the exclusions file of a version of which the rows are there, and makes a table over the version.
+fn table_over<T: MadeTable, R: Read>(
+    alloc: Global,
+    version: usize,
+    rows: RowList,
+    exclusions_file: &mut Watched<R>,
+) -> Result<T, VersionFault>
+    ensures built { IfOk result (λ table. WasBuiltOver rows (stream_of R.remaining exclusions_file.old exclusions_file.new) (T.model table)) }
+    ensures refused { IfErr result (IsFaultOver version rows (stream_of R.remaining exclusions_file.old exclusions_file.new)) }
+{
+    let built = version_over(alloc, version, rows, exclusions_file)?;
+    table_of(alloc, version, built)
 }
 
 /// Reads the first two files of a version, and makes a table over it. Keeps the bytes of the data file.
@@ -79,10 +95,13 @@ fn read_version_and_bytes<T: MadeTable, R: Read>(
         (stream_of R.remaining exclusions_file.old exclusions_file.new)) }
 {
     exclusions_file.clear();
-    let (bytes, rows) = read_data(alloc, version, data_file)?;
-    let built = version_over(alloc, version, rows, exclusions_file)?;
-    let table: T = table_of(alloc, version, built)?;
-    Ok((bytes, table))
+    match read_data(alloc, data_file) {
+        Ok((bytes, rows)) => {
+            let table: T = table_over(alloc, version, rows, exclusions_file)?;
+            Ok((bytes, table))
+        }
+        Err(fault) => Err(VersionFault::Data { version, fault }),
+    }
 }
 
 /// Reads the foldings of a version.

@@ -45,6 +45,10 @@ sooner None second = second
 sooner (Some f) None = Some f
 sooner (Some f) (Some g) = if nat_lt (place_of g) (place_of f) then Some g else Some f
 
+-- that of a lowercase
+abbrev pub lowercase_fault : Option ℕ → Option ConditionFault
+lowercase_fault code = option_map NotFolded code
+
 -- what one of the first places lists
 abbrev pub Below : (ℕ → ℕ → Type 0) → ℕ → ℕ → Type 0
 Below At n c = (k : ℕ) × (k < n) × At k c

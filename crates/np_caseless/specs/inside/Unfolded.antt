@@ -1,6 +1,6 @@
 -- Lowercases that lack a folding, as a test.
 use Rattle.std.specs.Prelude.{◌≡◌, ℕ, Bool, true, not, ◌&&◌, ◌==◌, List, Some, slice_get}
-use Rattle.np_foldings.specs.Lowercases.{Lowercase}
+use Rattle.np_foldings.specs.declared.lowercases.Lowercase.{Lowercase}
 use Rattle.np_versions.specs.Versions.{is_assigned}
 use Rattle.np_caseless.specs.Folded.{FoldedVersion, is_quiet}
 
