@@ -1,5 +1,5 @@
 #!/usr/bin/env python3
-"""tests/chaos.py [--seconds N] [--seed S] [--log sqlite|redis|postgres] [--form nfc|nfkc] [--within N] PROGRAM: five nodes
+"""tests/chaos.py [--seconds N] [--seed S] [--log sqlite|redis|postgres|etcd] [--form nfc|nfkc] [--within N] PROGRAM: five nodes
 of a registry that are killed, cut off and upgraded.
 
 PROGRAM is npss, with which the judge replays. The nodes are processes of their own (chaos_node.py), whose versions are

@@ -44,7 +44,7 @@ REPEATED = 0.2
 def kinds():
     """The kinds of logs of which there is what they want."""
     found = [SqliteLog]
-    for name in ("redis://", "postgresql://"):
+    for name in ("redis://", "postgresql://", "etcd://"):
         with suppress(LogAway):
             found.append(kind_of(name))
     return found

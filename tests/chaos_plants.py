@@ -97,6 +97,14 @@ TESTED = {
                                                "PostgresFaults.test_a_wait_that_somebody_cancels_is_no_answer"),
     "a primary without standbys is used on": ("logs/postgres_log.py", """        self._cluster.check(found[1:])
 """, "", "PostgresSettings.test_a_primary_that_waits_for_nobody"),
+    "a compare is left out": ("logs/etcd_log.py", """            "compare": [unchanged(self._tail_key(shard), tail) for shard, tail in tails.items()],
+""", """            "compare": [],
+""", "EtcdKind.test_records_become_visible_in_their_order"),
+    "a try without an answer is made again as another one": ("logs/etcd_log.py", "if own and own[0][1][:_WORD] == word:", "if False:",
+                                                             "EtcdFaults.test_what_got_no_answer_from_one_member_is_done_once"),
+    "what one member alone has is read": ("logs/etcd_log.py", """self._cluster.ask("/v3/kv/range", {"key": spelled(key),""",
+                                          """self._cluster.ask("/v3/kv/range", {"serializable": True, "key": spelled(key),""",
+                                          "EtcdFaults.test_what_one_member_alone_has_is_not_read"),
     "what Redis is set to is looked at once": ("logs/redis_log.py", """            self._check_settings(settings)
             return""", """            return""", "RedisSettings.test_each_setting_is_looked_at_while_a_log_is_used"),
     "a password stays in the store": ("store.py", "self.named_log = without_password(self._base, file, self.named_log)", "pass",

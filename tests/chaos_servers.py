@@ -19,7 +19,7 @@ sys.path.append(str(ROOT / "hosts" / "registry" / "tests"))
 from log_servers import Etcd, Postgres, RedisServer, is_here, send, waited
 from log_servers import Proxy as Proxy
 
-KINDS = ("sqlite", "redis", "postgres")
+KINDS = ("sqlite", "redis", "postgres", "etcd")
 
 
 def here():

@@ -3,7 +3,7 @@
 
 PROGRAM is npss. PREFIX is where ./build-c installed the library, that of this tree where none is named; the module npss is
 built over it. In turn: the registry's own tests; chaos over a log of each kind of which there are a server and a client, a
-SQLite file, Redis and PostgreSQL, for N seconds each, 20 where nobody says otherwise, and behind each the log's own
+SQLite file, Redis, PostgreSQL and etcd, for N seconds each, 20 where nobody says otherwise, and behind each the log's own
 faults, which take some 10 seconds. Run as root it installs Debian's packages of PACKAGES where they are missing, unless
 NO_APT=1 is set; what can't be had is skipped, with its name. Ends in a line 'N passed, M failed'.
 """
@@ -20,11 +20,11 @@ from pathlib import Path
 from harness import ROOT, Tally, install
 
 HOST = ROOT / "hosts" / "registry"
-PACKAGES = ("redis-server", "python3-redis", "postgresql", "python3-psycopg", "python3-starlette", "python3-uvicorn",
+PACKAGES = ("redis-server", "python3-redis", "postgresql", "python3-psycopg", "etcd-server", "python3-starlette", "python3-uvicorn",
             "python3-prometheus-client", "mypy", "chromium")
 # What all of it wants, and what all but PostgreSQL's does.
 MODULES = ("import prometheus_client, psycopg, redis, starlette, uvicorn", "import prometheus_client, redis, starlette, uvicorn")
-PROGRAMS = ("redis-server", "mypy", "chromium")
+PROGRAMS = ("redis-server", "etcd", "mypy", "chromium")
 SYSTEM_PYTHON = "/usr/bin/python3"
 
 
@@ -91,7 +91,7 @@ def main():
         else:
             print("skipped: the registry's types: mypy is not here")
         logs = kinds_here(python, environment)
-        print("".join(f"skipped: chaos over {log}: its server or its client is not here\n" for log in ("redis", "postgres") if log not in logs), end="")
+        print("".join(f"skipped: chaos over {log}: its server or its client is not here\n" for log in ("redis", "postgres", "etcd") if log not in logs), end="")
         for log in logs:
             chaos = [python, ROOT / "tests" / "chaos.py", "--seconds", words.seconds, "--log", log, words.program]
             counted(tally, f"chaos over {log}", chaos, environment)

@@ -23,8 +23,9 @@ from npss_registry.logs.protocol import whole as whole
 from npss_registry.logs.sqlite_log import SqliteLog as SqliteLog
 
 # By its scheme the module of a log and its class, which are imported where such a log is opened.
-_REDIS, _POSTGRES = ("redis_log", "RedisLog"), ("postgres_log", "PostgresLog")
-_KINDS = {"redis": _REDIS, "rediss": _REDIS, "unix": _REDIS, "postgresql": _POSTGRES, "postgres": _POSTGRES}
+_REDIS, _POSTGRES, _ETCD = ("redis_log", "RedisLog"), ("postgres_log", "PostgresLog"), ("etcd_log", "EtcdLog")
+_KINDS = {"redis": _REDIS, "rediss": _REDIS, "unix": _REDIS, "postgresql": _POSTGRES, "postgres": _POSTGRES,
+          "etcd": _ETCD, "etcds": _ETCD}
 
 
 def open_log(name: str, how: How = "use") -> Log:

@@ -7,7 +7,7 @@ from urllib.parse import parse_qsl, quote, unquote, urlencode, urlsplit
 
 from npss_registry.errors import LogAway, PasswordInName, UnknownScheme
 
-SCHEMES = ("redis", "rediss", "unix", "postgresql", "postgres")
+SCHEMES = ("redis", "rediss", "unix", "postgresql", "postgres", "etcd", "etcds")
 # The word of a URL that names a file with the password, and the variable of the environment that goes before it.
 PASSWORD_FILE, PASSWORD = "password-file", "NPSS_LOG_PASSWORD"
 # A file of a password has so many bytes at most.
