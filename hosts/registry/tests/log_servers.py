@@ -328,6 +328,7 @@ class Postgres(Servers):
         self.speak()
         for number in range(3):
             self.stop(number)
+            send(self.processes(number), signal.SIGKILL)
 
 
 class Etcd(Servers):

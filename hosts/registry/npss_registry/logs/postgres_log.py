@@ -7,7 +7,7 @@ behind one that was read already. A commit is answered when a standby has it on 
 import select
 import time
 from collections.abc import Iterator, Sequence
-from contextlib import contextmanager
+from contextlib import contextmanager, suppress
 from typing import Optional
 
 import psycopg
@@ -24,6 +24,7 @@ _READ = """SELECT place, body FROM (SELECT place, body, row_number() OVER record
     FROM (SELECT place, body FROM {table} WHERE shard = %s AND place > %s ORDER BY place LIMIT %s) AS piece
     WINDOW records AS (ORDER BY place ROWS UNBOUNDED PRECEDING)) AS sized WHERE before < %s OR number <= 2 ORDER BY place"""
 _LASTS = """SELECT coalesce((SELECT max(place) FROM {table} WHERE shard = number), 0) FROM generate_series(0, %s - 1) AS number ORDER BY number"""
+_NOTIFY = "BEGIN; SET LOCAL synchronous_commit = off; NOTIFY {table}; COMMIT"
 _INSERT = """INSERT INTO {table} SELECT %s + number, shard, body
     FROM unnest(%b::integer[], %b::bytea[]) WITH ORDINALITY AS one (shard, body, number)"""
 
@@ -83,8 +84,10 @@ class PostgresLog:
         with self._asked() as base:
             with self._cluster.writing(base):
                 places = self._insert(base, self._last_of_all(base), records)
-            # By itself: within the transaction it would make each NOTIFY of the cluster wait for the standby.
-            base.execute(self._sql("NOTIFY {table}"))
+            # By itself: within the transaction it would make each NOTIFY of the cluster wait for the standby. The records stand
+            # where they are without it.
+            with suppress(psycopg.Error):
+                base.execute(self._sql(_NOTIFY))
             return places
 
     def begin(self, records: Sequence[tuple[int, bytes]]) -> None:
