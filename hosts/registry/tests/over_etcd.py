@@ -5,6 +5,7 @@ import os
 import secrets
 import shutil
 import signal
+import subprocess
 import tempfile
 import time
 import unittest
@@ -12,7 +13,7 @@ from pathlib import Path
 from unittest.mock import patch
 
 from cases import NEW, YOUNG, Case, version
-from log_servers import Etcd, Proxy, is_here, send, waited
+from log_servers import Etcd, Proxy, free_ports, is_here, listens, send, waited
 from npss_registry import LogAway, LogBroken, StoreError
 from npss_registry.logs import record_at
 from npss_registry.records import Setup
@@ -177,6 +178,36 @@ class EtcdAccounts(EtcdCase):
             self.servers.start(number)
             self.goes_on(log, b"%d" % number, 30)
         self.assertRaisesRegex(LogAway, "permission denied", self.opened, name.replace(self.prefix, "other"), PATIENCE)
+
+
+@unittest.skipUnless(is_here("etcd") and shutil.which("openssl"), "etcd-server or openssl is not here")
+class EtcdTls(Case):
+    """A member that is asked by TLS, and asks who it is by a certificate."""
+
+    def certificate(self, name):
+        """A certificate of this machine that vouches for itself, and its key."""
+        made = [str(self.folder / f"{name}.{end}") for end in ("cert", "key")]
+        subprocess.run(["openssl", "req", "-x509", "-newkey", "ec", "-pkeyopt", "ec_paramgen_curve:P-256", "-nodes", "-days", "2", "-subj", f"/CN={name}",
+                        "-addext", "subjectAltName=IP:127.0.0.1", "-keyout", made[1], "-out", made[0]], stderr=subprocess.DEVNULL, check=True)
+        return made
+
+    def test_certificates(self):
+        from npss_registry.logs.etcd_log import EtcdLog
+
+        (cert, key), (other, other_key), (port, peer) = self.certificate("one"), self.certificate("other"), free_ports(2)
+        words = ["--data-dir", self.folder / "etcd", "--cert-file", cert, "--key-file", key, "--client-cert-auth", "--trusted-ca-file", cert,
+                 "--listen-client-urls", f"https://127.0.0.1:{port}", "--advertise-client-urls", f"https://127.0.0.1:{port}",
+                 "--listen-peer-urls", f"http://127.0.0.1:{peer}", "--logger", "zap", "--log-level", "panic"]
+        member = subprocess.Popen(["etcd", *map(str, words)], stdin=subprocess.DEVNULL, stdout=subprocess.DEVNULL, stderr=subprocess.DEVNULL)
+        self.addCleanup(member.wait)
+        self.addCleanup(member.kill)
+        waited(lambda: listens(port))
+        log = EtcdLog(f"etcds://127.0.0.1:{port}?ca={cert}&cert={cert}&key={key}#t", "make", 20)
+        self.addCleanup(log.close)
+        self.assertEqual((log.append([(0, b"a")]), log.news([0], 1), log.read(0, 0, 9)), ([1], [1], [(1, b"a")]))
+        for words in (f"ca={other}&cert={cert}&key={key}", f"ca={cert}&cert={other}&key={other_key}", f"ca={cert}", f"cert={cert}&key={key}"):
+            self.assertRaises(LogAway, EtcdLog, f"etcds://127.0.0.1:{port}?{words}#t", "make", 1)
+        self.assertRaises(LogAway, EtcdLog, f"etcd://127.0.0.1:{port}#t", "make", 1)
 
 
 class EtcdNodes(EtcdCase):
