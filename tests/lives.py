@@ -24,8 +24,8 @@ KEPT = """sqlite3 -cmd '.load /usr/lib/sqlite3/npss' ~/databases/accounts.db "SE
 
 def fetched(root):
     """Installs what the reader has, and fetches what the pages tell to install; what failed, or nothing."""
-    for words in (["apt-get", "update", "-q"], ["apt-get", "install", "-q", "-y", "--no-install-recommends", *HAS],
-                  ["apt-get", "install", "-q", "-y", "--no-install-recommends", "--download-only", *TOLD]):
+    (root.folder / "etc/apt/apt.conf.d/99bare").write_text('APT::Install-Recommends "false";\n', encoding="ascii")
+    for words in (["apt-get", "update", "-q"], ["apt-get", "install", "-q", "-y", *HAS], ["apt-get", "install", "-q", "-y", "--download-only", *TOLD]):
         done = subprocess.run(["chroot", root.folder, *words], env=ENVIRONMENT, stdin=subprocess.DEVNULL, stdout=subprocess.PIPE, stderr=subprocess.STDOUT,
                               text=True, timeout=FETCHING, check=False)
         if done.returncode:
@@ -109,8 +109,8 @@ def check_removal(tally, machine):
     tally.same("a removal stops the service", (active(machine)["ActiveState"], machine.types("! curl -s http://127.0.0.1:8765/health")[0]), ("inactive", 0))
     text = next(text for language, text in blocks("docs/INSTALL.md") if text.startswith(PURGE))
     Reader(tally, machine, "docs/INSTALL.md", f"/{booted.HOME}").judge(text, machine.types(text))
-    left = machine.run("sh", "-c", "dpkg -l | grep npss; find /usr /etc /lib /var -name '*npss*' -not -path '/var/cache/*' -not -path '/var/lib/private/*'")[1].split()
-    made = {"/etc/npss-registry", "/etc/postgresql/15/main/conf.d/npss.conf", "/var/lib/npss", "/var/lib/npss-registry"}
+    left = machine.run("sh", "-c", "dpkg -l | grep npss; find /usr /etc /lib /var -name '*npss*' -not -type d -not -path '/var/cache/*' -not -path '/var/lib/*npss*'")[1].split()
+    made = {"/etc/postgresql/15/main/conf.d/npss.conf", "/var/lib/npss-registry"}
     tally.same("what is left is what was made", sorted(set(left) - made), [])
     tally.check("the store and the token stay", machine.run("test", "-e", STORE)[0] == 0 and machine.run("test", "-e", TOKEN)[0] == 0)
 
