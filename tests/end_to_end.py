@@ -134,7 +134,6 @@ def main():
             check_order(tally, Path(sys.argv[2]).resolve(), Path(name))
             check_after_gate(tally, Path(sys.argv[2]).resolve(), Path(name))
             check_page(tally, "README.md")
-            check_page(tally, "docs/BULK.md")
         tally.check("files are as they were", state_of(folder) == before, "a file changed")
     tally.finish()
 
