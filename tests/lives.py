@@ -100,10 +100,10 @@ def check_upgrade(tally, machine):
     answers = [asked(machine, path, body) for path, body in (("/find", '{"name": "Zoe\u0308"}'), ("/claim", '{"name": "Ana", "owner": "2"}'),
                                                              ("/claim", '{"name": "Zo\xeb", "owner": "2"}'))]
     tally.same("names stay, and more are registered", answers, ["200", "201", "409"])
-    for name, line, wanted in (("PostgreSQL finds its name", FOUND, "Zo\xeb\n"), ("PostgreSQL refuses it again", TAKEN, None),
+    for name, line, wanted in (("PostgreSQL finds its name", FOUND, "Zo\xeb\n"), ("PostgreSQL refuses it again", TAKEN, "duplicate key"),
                                ("SQLite finds its name", KEPT, "Zo\xeb\n")):
         status, written = machine.types(line)
-        tally.check(f"behind the upgrade {name}", status == 0 and wanted in (None, written), f"status {status}: {written}")
+        tally.check(f"behind the upgrade {name}", status == 0 and wanted in written, f"status {status}: {written}")
 
 
 def check_removal(tally, machine):
