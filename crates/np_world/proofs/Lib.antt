@@ -9,6 +9,7 @@ pub mod ForgettingLemmas
 pub mod HistoryLemmas
 pub mod ImageLemmas
 pub mod MachineLemmas
+pub mod MessageLemmas
 pub mod PlayLemmas
 pub mod ReportLemmas
 pub mod ReportTextLemmas

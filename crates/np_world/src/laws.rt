@@ -1,7 +1,7 @@
 //! The laws of the machine and of histories, over the definitions alone: functions that do nothing, and
 //! whose contracts are what is proved.
 ghost use Rattle.np_node.specs.Laws.{Restored};
-ghost use Rattle.np_world.specs.Laws.{HistoriesAreRuns, OneRun};
+ghost use Rattle.np_world.specs.Laws.{HistoriesAreRuns, OneMessage, OneRun};
 ghost use Rattle.np_world.specs.Moments.{itself};
 
 use np_versions::NormTable;
@@ -35,6 +35,15 @@ pub fn histories<T: NormTable>()
     // Along a chain forms stay, and equal forms are equivalence.
     np_chain::laws::stability();
     np_chain::laws::idempotence();
+}
+
+/// Along a chain, the messages that two nodes of one form tell of a string are the same bytes. So
+/// what a node tells later, or of a string that it took, is the message that was sent.
+pub fn one_message()
+    ensures { OneMessage }
+{
+    // A string has one key under all versions that assign it.
+    np_node::laws::exchange();
 }
 
 /// The image of a node, of either layout, is restored under the node's version, form and room as
