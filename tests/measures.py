@@ -34,7 +34,7 @@ ASIDE = {
     # other arms of the run
     "run_key_under", "run_audit", "run_replay",
     # the files of the version, and its table
-    "read_version", "of", "meets_conditions", "new", "refuse_file", "open", "take_standard",
+    "read_version", "table_of", "of", "meets_conditions", "new", "refuse_file", "open", "take_standard",
     # marks, lengths and values that see no byte
     "alloc", "as_bytes", "clear", "flush", "len", "is_empty", "new_piece", "into_inner", "least_quick_check", "status_of_answer", "as_str", "as_slice", "iter",
     # where a table has what it tells of a code point

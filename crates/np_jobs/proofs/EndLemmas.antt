@@ -2,11 +2,11 @@
 use Rattle.std.proofs.Common.{◌≡◌, ℕ, inl, inr, Bool, false, List, Option, Result, Ok, Err, IfOk, IfErr, string_bytes, ap, subst}
 use Rattle.np_code_points.specs.Watched.{device_of, has_failed}
 use Rattle.np_code_points.specs.declared.channels.watched.Watched.{Watched}
-use Rattle.np_jobs.specs.Ends.{JobEnds}
+use Rattle.np_jobs.specs.Ends.{JobEndsBy}
 use Rattle.np_jobs.specs.Streams.{IsUntouched, Stream, stream_of}
 use Rattle.np_jobs.specs.Endings.{EndsWith}
 use Rattle.np_jobs.specs.declared.ending.Made.{Made}
-use Rattle.np_jobs.specs.declared.faults.JobFault.{JobFault}
+use Rattle.np_jobs.specs.Tellings.{Telling}
 
 -- a stream goes by the devices, and not by the marks before
 pub same_stream : {D : Type 0} (tells : D → Option (List ℕ)) (a b new : Watched D) → device_of a ≡ device_of b → stream_of tells a new ≡ stream_of tells b new
@@ -27,7 +27,8 @@ pub untouched : {D : Type 0} (tells : D → Option (List ℕ)) (old new : Watche
 untouched tells old new device clear = record { same = ap tells device; clear = clear }
 
 -- the end of a job that makes this, or is refused for this
-pub ends : (Makes : Bool → List ℕ → Type 0) (Refuses : JobFault → Type 0) (made : Result Made JobFault) (output error : Stream) (status : ℕ)
-    → IfOk made (λ (m : Made). Makes m.is_yes (string_bytes m.text)) → IfErr made Refuses → EndsWith made output error status → JobEnds Makes Refuses output error status
-ends Makes Refuses (Ok m) output error status makes refuses end = inl (m.is_yes, string_bytes m.text, makes, end)
-ends Makes Refuses (Err fault) output error status makes refuses end = inr (fault, refuses, end.0, end.1)
+pub ends : {F : Type 0} (telling : F → Telling) (Makes : Bool → List ℕ → Type 0) (Refuses : F → Type 0) (made : Result Made F) (output error : Stream) (status : ℕ)
+    → IfOk made (λ (m : Made). Makes m.is_yes (string_bytes m.text)) → IfErr made Refuses → EndsWith telling made output error status
+    → JobEndsBy telling Makes Refuses output error status
+ends telling Makes Refuses (Ok m) output error status makes refuses end = inl (m.is_yes, string_bytes m.text, makes, end)
+ends telling Makes Refuses (Err fault) output error status makes refuses end = inr (fault, refuses, end.0, end.1)

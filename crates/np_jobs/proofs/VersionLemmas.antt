@@ -12,7 +12,7 @@ use Rattle.np_versions.specs.Versions.{VersionData}
 use Rattle.np_jobs.specs.Streams.{Stream}
 use Rattle.np_jobs.specs.Versions.{HasExclusions, HasRows, IsTablesFault, IsVersionFault, WasBuilt}
 use Rattle.np_jobs.specs.Wraps.{Wraps}
-use Rattle.np_jobs.specs.inside.VersionSteps.{IsFaultOver, WasBuiltOver}
+use Rattle.np_jobs.specs.Versions.{IsFaultOver, WasBuiltOver}
 use Rattle.np_jobs.specs.declared.faults.VersionFault.{VersionFault}
 use Rattle.np_jobs.specs.declared.faults.VersionFault.TheVariants.{Tables}
 

@@ -31,12 +31,16 @@ pub record IsComparison (form : Form) (v : VersionData) (first second : List ℕ
   pub second_assigned : IsAssigned v (chars second)
   pub answer : IsTrue is_yes ↔ IsEquivalent v (is_compat form) (chars first) (chars second)
 
--- the first string's first unassigned code point; the second's, where the first is assigned; or memory ran out, where both are
+-- the first string's first unassigned code point; or the second's, where the first is assigned
+abbrev pub LacksAssigned : VersionData → List ℕ → List ℕ → TextFault → Type 0
+LacksAssigned v first second fault =
+    ((at : ℕ) × (code : ℕ) × (fault ≡ FirstUnassigned at code) × IsFirstUnassigned v (chars first) at code)
+    ⊎ ((at : ℕ) × (code : ℕ) × (fault ≡ SecondUnassigned at code) × IsAssigned v (chars first) × IsFirstUnassigned v (chars second) at code)
+
+-- one of the two isn't assigned; or memory ran out, where both are
 abbrev pub LacksComparison : VersionData → List ℕ → List ℕ → TextFault → Type 0
 LacksComparison v first second fault =
-    ((at : ℕ) × (code : ℕ) × (fault ≡ FirstUnassigned at code) × IsFirstUnassigned v (chars first) at code)
-    ⊎ (((at : ℕ) × (code : ℕ) × (fault ≡ SecondUnassigned at code) × IsAssigned v (chars first) × IsFirstUnassigned v (chars second) at code)
-    ⊎ ((fault ≡ Memory) × IsAssigned v (chars first) × IsAssigned v (chars second)))
+    LacksAssigned v first second fault ⊎ ((fault ≡ Memory) × IsAssigned v (chars first) × IsAssigned v (chars second))
 
 -- the comparison of the two lines of a text
 pub record IsCompareOutput (form : Form) (v : VersionData) (text : List ℕ) (is_yes : Bool) (bytes : List ℕ) : Type 0 where

@@ -5,6 +5,7 @@ pub mod Endings
 pub mod Ends
 pub mod Keys
 pub mod KeysUnder
+pub mod Lines
 pub mod NormalForms
 pub mod Opening
 pub mod Programs

@@ -85,9 +85,12 @@ text_telling (Texts.FirstUnassigned at code) = made 3 (unassigned_line (codes "f
 text_telling (Texts.SecondUnassigned at code) = made 3 (unassigned_line (codes "second: ") at code)
 text_telling Texts.Memory = fixed 6 memory_line
 
--- KIND CODE: the kind of a break, and its code point
+-- KIND CODE: the name of a break's kind, and its code point
+abbrev pub kind_line : List ℕ → ℕ → List ℕ
+kind_line kind code = kind ++ (codes " " ++ (code_digits code ++ codes "\n"))
+
 abbrev pub break_line : Break → List ℕ
-break_line b = name_of b.kind ++ (codes " " ++ (code_digits b.code ++ codes "\n"))
+break_line b = kind_line (name_of b.kind) b.code
 
 abbrev pub replay_telling : ReplayFault → Telling
 replay_telling (Replays.Schedule fault) = fixed (input_status fault) (input_line (codes "schedule") fault)

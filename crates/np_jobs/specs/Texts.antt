@@ -21,11 +21,13 @@ pub record TextReaders : Type 0 where
 abbrev pub IsNotUtf8 : List ℕ → TextFault → Type 0
 IsNotUtf8 bytes fault = (at : ℕ) × (fault ≡ NotUtf8 at) × (¬ (IsUtf8 bytes)) × IsLongestValidPrefix bytes at
 
--- the input was not read whole; or it was, and is no text, or is one that is refused
+-- the input was not read whole; or it was, and is no text
+abbrev pub IsNoText : Stream → TextFault → Type 0
+IsNoText input fault = Wraps Input (WasNotRead input) fault ⊎ ((bytes : List ℕ) × WasRead input bytes × IsNotUtf8 bytes fault)
+
+-- the input was not read as a text; or it was, and is refused
 abbrev pub IsTextFault : (List ℕ → TextFault → Type 0) → Stream → TextFault → Type 0
-IsTextFault Refuses input fault =
-    Wraps Input (WasNotRead input) fault
-    ⊎ ((bytes : List ℕ) × WasRead input bytes × (IsNotUtf8 bytes fault ⊎ (IsUtf8 bytes × Refuses bytes fault)))
+IsTextFault Refuses input fault = IsNoText input fault ⊎ ((bytes : List ℕ) × WasRead input bytes × IsUtf8 bytes × Refuses bytes fault)
 
 -- what is made of the input, a text
 pub record IsMadeOfText (Makes : List ℕ → Bool → List ℕ → Type 0) (input : Stream) (is_yes : Bool) (bytes : List ℕ) : Type 0 where

@@ -46,6 +46,18 @@ pub record WasRefused (IsFault : List ℕ → UcdFault → Type 0) (file : Strea
 abbrev pub IsTablesFault : VersionData → TableFault → Type 0
 IsTablesFault v fault = (fault ≡ Memory) ⊎ IsLeastFault v fault
 
+-- the rows and the exclusions file make this version
+pub record WasBuiltOver (rows : List Entry) (exclusions_file : Stream) (v : VersionData) : Type 0 where
+  pub over : v.entries ≡ rows
+  pub listed : HasExclusions exclusions_file v.exclusions
+  pub faultless : IsFaultless v
+
+-- why no version came of them
+abbrev pub IsFaultOver : ℕ → List Entry → Stream → VersionFault → Type 0
+IsFaultOver number rows exclusions_file fault =
+    Wraps (Exclusions number) (WasRefused IsFirstBadLine exclusions_file) fault
+    ⊎ ((v : VersionData) × (v.entries ≡ rows) × HasExclusions exclusions_file v.exclusions × Wraps (Tables number) (IsTablesFault v) fault)
+
 -- why no version came of the two files: the data file first, then the exclusions, then the tables
 abbrev pub IsVersionFault : ℕ → Stream → Stream → VersionFault → Type 0
 IsVersionFault number data_file exclusions_file fault =

@@ -3,4 +3,3 @@ pub mod ChainSteps
 pub mod Groups
 pub mod OpeningSteps
 pub mod UnderSteps
-pub mod VersionSteps

@@ -1,7 +1,8 @@
 //! The command `compare`: whether two strings are equivalent.
-ghost use Rattle.std.specs.Prelude.{◌≡◌, IfNone, IfOk, IfErr, IfSome, string_bytes};
+ghost use Rattle.std.specs.Prelude.{◌≡◌, IfNone, IfOk, IfErr, IfSome, OnOk, chars, string_bytes};
 ghost use Rattle.np_code_points.specs.Lines.{HasNo};
-ghost use Rattle.np_jobs.specs.Comparisons.{AreTwoLines, IsCompareOutput, IsComparison, LacksCompareOutput, LacksComparison, answer_text};
+ghost use Rattle.np_forms.specs.Assigned.{IsAssigned};
+ghost use Rattle.np_jobs.specs.Comparisons.{AreTwoLines, IsCompareOutput, IsComparison, LacksAssigned, LacksCompareOutput, LacksComparison, answer_text};
 
 use crate::ending::Made;
 use crate::faults::TextFault;
@@ -13,7 +14,7 @@ use std::alloc::{AllocError, Global};
 
 /// The string before the first line end, and what stands behind it, without a line end at its very
 /// end; none where there is no line end.
-fn two_lines(text: &str) -> Option<(&str, &str)>
+pub fn two_lines(text: &str) -> Option<(&str, &str)>
     ensures none { IfNone result (HasNo 10 text.now) }
     ensures some { IfSome result (λ lines. AreTwoLines text.now lines.0.now lines.1.now) }
 {
@@ -23,6 +24,26 @@ fn two_lines(text: &str) -> Option<(&str, &str)>
     match rest.strip_suffix('\n') {
         Some(second) => Some((first, second)),
         None => Some((first, rest)),
+    }
+}
+
+/// Checks that each code point of two texts is assigned.
+///
+/// # Errors
+///
+/// `FirstUnassigned` with the first text's first unassigned code point; `SecondUnassigned` with the second's, where the
+/// first text has none.
+pub fn both_assigned<T: NormTable>(table: &T, first: &str, second: &str) -> Result<(), TextFault>
+    ensures first { OnOk result (IsAssigned (T.model table.now) (chars first.now)) }
+    ensures second { OnOk result (IsAssigned (T.model table.now) (chars second.now)) }
+    ensures refused { IfErr result (LacksAssigned (T.model table.now) first.now second.now) }
+{
+    if let Some((at, code)) = first_unassigned_char(table, first) {
+        return Err(TextFault::FirstUnassigned { at, code });
+    }
+    match first_unassigned_char(table, second) {
+        Some((at, code)) => Err(TextFault::SecondUnassigned { at, code }),
+        None => Ok(()),
     }
 }
 
@@ -37,12 +58,7 @@ fn comparison_of<T: NormTable>(
     ensures equal { IfOk result (IsComparison form (T.model table.now) first.now second.now) }
     ensures refused { IfErr result (LacksComparison (T.model table.now) first.now second.now) }
 {
-    if let Some((at, code)) = first_unassigned_char(table, first) {
-        return Err(TextFault::FirstUnassigned { at, code });
-    }
-    if let Some((at, code)) = first_unassigned_char(table, second) {
-        return Err(TextFault::SecondUnassigned { at, code });
-    }
+    both_assigned(table, first, second)?;
     match equivalent(alloc, table, form.compat(), first, second) {
         Ok(equal) => Ok(equal),
         Err(_) => Err(TextFault::Memory),
@@ -50,7 +66,7 @@ fn comparison_of<T: NormTable>(
 }
 
 /// What is printed.
-fn answer_line(alloc: Global, is_yes: bool) -> Result<String, AllocError>
+pub fn answer_line(alloc: Global, is_yes: bool) -> Result<String, AllocError>
     ensures { IfOk result (λ line. string_bytes line ≡ answer_text is_yes) }
 {
     String::from_str(alloc, if is_yes { "equal\n" } else { "different\n" })

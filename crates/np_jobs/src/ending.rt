@@ -1,11 +1,12 @@
 //! How a job ends: what it writes, what it tells, and its status.
 ghost use Rattle.std.specs.Prelude.{◌≡◌, string_bytes};
-ghost use Rattle.np_jobs.specs.Ends.{TellsRefusal, IsTold, answer_status};
+ghost use Rattle.np_jobs.specs.Ends.{TellsAs, IsTold, answer_status};
 ghost use Rattle.np_jobs.specs.Streams.{stream_of};
 ghost use Rattle.np_jobs.specs.Endings.{EndsWith};
 
 use crate::faults::JobFault;
-use crate::lines::{OUT_OF_MEMORY, line_of};
+use crate::lines::OUT_OF_MEMORY;
+use crate::refusals::Refusal;
 use crate::statuses::{DIFFERENT, DONE, MEMORY};
 use np_code_points::output::write_out;
 use np_code_points::watched::Watched;
@@ -38,10 +39,10 @@ pub fn tell<E: Write>(error: &mut Watched<E>, line: &str)
 
 /// Tells a refusal in its line, and answers its status; as want of memory where there is none for
 /// the line.
-pub fn refuse<E: Write>(alloc: Global, error: &mut Watched<E>, fault: &JobFault) -> u8
-    ensures { TellsRefusal fault.now (stream_of E.contents error.old error.new) result }
+pub fn refuse<E: Write, F: Refusal>(alloc: Global, error: &mut Watched<E>, fault: &F) -> u8
+    ensures { TellsAs (F.telling fault.now) (stream_of E.contents error.old error.new) result }
 {
-    match line_of(alloc, fault) {
+    match fault.line(alloc) {
         Ok(line) => {
             tell(error, line.as_str());
             fault.status()
@@ -55,13 +56,13 @@ pub fn refuse<E: Write>(alloc: Global, error: &mut Watched<E>, fault: &JobFault)
 
 /// Ends a job: writes what it made, flushes once and tells nothing, unless that fails, which is
 /// told; or writes nothing, and tells why it is refused. Answers the status.
-pub fn finish<O: Write, E: Write>(
+pub fn finish<O: Write, E: Write, F: Refusal>(
     alloc: Global,
     output: &mut Watched<O>,
     error: &mut Watched<E>,
-    made: Result<Made, JobFault>,
+    made: Result<Made, F>,
 ) -> u8
-    ensures { EndsWith made (stream_of O.contents output.old output.new) (stream_of E.contents error.old error.new) result }
+    ensures { EndsWith F.telling made (stream_of O.contents output.old output.new) (stream_of E.contents error.old error.new) result }
 {
     output.clear();
     error.clear();

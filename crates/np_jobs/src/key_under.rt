@@ -13,7 +13,7 @@ use crate::ending::Made;
 use crate::faults::{JobFault, TextFault, VersionFault};
 use crate::key::key_of;
 use crate::lines::unassigned_text;
-use crate::texts::{read_input, text_in};
+use crate::texts::read_text;
 use crate::versions::{MadeTable, read_table_of, read_version};
 use np_chain::extends;
 use np_code_points::watched::Watched;
@@ -25,7 +25,11 @@ use std::io::Read;
 
 /// What is said of a key that is its own form under a version: which code point of it that version
 /// lacks, if it lacks one.
-fn own_line(alloc: Global, old: &Version, key: &str) -> Result<String, Memory>
+///
+/// # Errors
+///
+/// `Memory` where memory ran out.
+pub fn own_line(alloc: Global, old: &Version, key: &str) -> Result<String, Memory>
     ensures { IfOk result (λ line. SaysOwn old.now (chars key.now) (string_bytes line)) }
 {
     match first_unassigned_in_version(old, key) {
@@ -70,8 +74,7 @@ fn made_of_input<T: NormTable, I: Read>(
         (stream_of I.remaining input.old input.new) m.is_yes (string_bytes m.text)) }
     ensures refused { IfErr result (IsTextFault (LacksKeyOutput (T.model table.now)) (stream_of I.remaining input.old input.new)) }
 {
-    let bytes = read_input(alloc, input)?;
-    let text = text_in(bytes)?;
+    let text = read_text(alloc, input)?;
     make_own(alloc, form, old, table, text)
 }
 

@@ -3,7 +3,7 @@ ghost use Rattle.std.specs.Prelude.{◌≡◌, ◌++◌, false, IfOk, OnErr, cod
 ghost use Rattle.np_code_points.specs.Codes.{code_digits};
 ghost use Rattle.np_jobs.specs.Tellings as tellings;
 ghost use Rattle.np_jobs.specs.Tellings.{replay_telling, telling_of, text_telling, version_telling};
-ghost use Rattle.np_jobs.specs.inside.Groups.{line_bytes};
+ghost use Rattle.np_jobs.specs.Lines.{line_bytes};
 
 use crate::faults::{JobFault, ReplayFault, TextFault, VersionFault};
 use crate::statuses::MEMORY;
@@ -40,7 +40,11 @@ impl Line {
 }
 
 /// A code point in hex digits.
-fn code_text(alloc: Global, code: u32) -> Result<String, Memory>
+///
+/// # Errors
+///
+/// `Memory` where memory ran out.
+pub fn code_text(alloc: Global, code: u32) -> Result<String, Memory>
     ensures { IfOk result (λ text. string_bytes text ≡ code_digits code) }
 {
     let mut text = String::new(alloc);
@@ -138,15 +142,26 @@ fn text_line(alloc: Global, fault: &TextFault) -> Result<Line, Memory>
     }
 }
 
+/// Adds the line of a break: the name of its kind, and its code point.
+///
+/// # Errors
+///
+/// `Memory` where memory ran out; the text may have some first bytes of the line more.
+pub fn write_kind(text: &mut String, kind: &str, code: u32) -> Result<(), Memory>
+    ensures { IfOk result (λ _. string_bytes text.new ≡ string_bytes text.old ++ tellings.kind_line kind.now code) }
+{
+    text.push_str(kind)?;
+    text.push_str(" ")?;
+    write_code(text, code)?;
+    text.push_str("\n")?;
+    Ok(())
+}
+
 /// Adds the line of a break.
 pub(super) fn write_break(text: &mut String, found: &Break) -> Result<(), Memory>
     ensures { IfOk result (λ _. string_bytes text.new ≡ string_bytes text.old ++ tellings.break_line found.now) }
 {
-    text.push_str(found.kind.name())?;
-    text.push_str(" ")?;
-    write_code(text, found.code)?;
-    text.push_str("\n")?;
-    Ok(())
+    write_kind(text, found.kind.name(), found.code)
 }
 
 /// The line on a version that does not extend the one before.

@@ -2,7 +2,7 @@
 //! answered.
 ghost use Rattle.std.specs.Prelude.{◌≡◌, ℕ, Bool, List, IfOk, IfErr, IsUtf8, string_bytes};
 ghost use Rattle.np_jobs.specs.Streams.{WasNotRead, WasRead, stream_of};
-ghost use Rattle.np_jobs.specs.Texts.{IsMadeOfText, IsNotUtf8, IsTextFault, MakesOfText, RefusesText, TextEnds};
+ghost use Rattle.np_jobs.specs.Texts.{IsMadeOfText, IsNoText, IsNotUtf8, IsTextFault, MakesOfText, RefusesText, TextEnds};
 ghost use Rattle.np_jobs.specs.Wraps.{Wraps};
 ghost use Rattle.np_jobs.specs.declared.faults.TextFault.{TextFault};
 ghost use Rattle.np_versions.specs.Versions.{VersionData};
@@ -36,22 +36,8 @@ pub trait TextMaker {
         ensures refused { IfErr result (refuses self.now (T.model table.now) (string_bytes text)) };
 }
 
-/// Reads the input whole.
-pub(super) fn read_input<R: Read>(
-    alloc: Global,
-    input: &mut Watched<R>,
-) -> Result<Vec<u8>, TextFault>
-    ensures read { IfOk result (λ bytes. WasRead (stream_of R.remaining input.old input.new) bytes.items) }
-    ensures refused { IfErr result (Wraps TextFault.Input (WasNotRead (stream_of R.remaining input.old input.new))) }
-{
-    match read_whole(alloc, input) {
-        Ok(bytes) => Ok(bytes),
-        Err(fault) => Err(TextFault::Input { fault }),
-    }
-}
-
 /// The text that the bytes write, in the same memory.
-pub(super) fn text_in(bytes: Vec<u8>) -> Result<String, TextFault>
+fn text_in(bytes: Vec<u8>) -> Result<String, TextFault>
     ensures text { IfOk result (λ text. string_bytes text ≡ bytes.items) }
     ensures valid { IfOk result (λ text. IsUtf8 bytes.items) }
     ensures refused { IfErr result (IsNotUtf8 bytes.items) }
@@ -59,6 +45,22 @@ pub(super) fn text_in(bytes: Vec<u8>) -> Result<String, TextFault>
     match text_of(bytes.as_slice()) {
         Ok(_same) => Ok(unsafe { String::from_utf8_unchecked(bytes) }),
         Err(fault) => Err(TextFault::NotUtf8 { at: fault.at }),
+    }
+}
+
+/// Reads the input, a text.
+///
+/// # Errors
+///
+/// `Input` where it was not read whole, `NotUtf8` where it is no UTF-8.
+pub fn read_text<R: Read>(alloc: Global, input: &mut Watched<R>) -> Result<String, TextFault>
+    ensures read { IfOk result (λ text. WasRead (stream_of R.remaining input.old input.new) (string_bytes text)) }
+    ensures valid { IfOk result (λ text. IsUtf8 (string_bytes text)) }
+    ensures refused { IfErr result (IsNoText (stream_of R.remaining input.old input.new)) }
+{
+    match read_whole(alloc, input) {
+        Ok(bytes) => text_in(bytes),
+        Err(fault) => Err(TextFault::Input { fault }),
     }
 }
 
@@ -73,8 +75,7 @@ fn made_of_input<M: TextMaker, T: NormTable, I: Read>(
         (stream_of I.remaining input.old input.new) m.is_yes (string_bytes m.text)) }
     ensures refused { IfErr result (IsTextFault (M.refuses maker.now (T.model table.now)) (stream_of I.remaining input.old input.new)) }
 {
-    let bytes = read_input(alloc, input)?;
-    let text = text_in(bytes)?;
+    let text = read_text(alloc, input)?;
     maker.make_output(alloc, table, text)
 }
 

@@ -3,7 +3,7 @@ ghost use Rattle.std.specs.Prelude.{◌≡◌, ◌⊎◌, IfOk, IfErr};
 ghost use Rattle.np_jobs.specs.Streams.{stream_of};
 ghost use Rattle.np_jobs.specs.Versions.{IsTablesFault, IsVersionFault, WasBuilt};
 ghost use Rattle.np_jobs.specs.Wraps.{Wraps};
-ghost use Rattle.np_jobs.specs.inside.VersionSteps.{IsFaultOver, WasBuiltOver};
+ghost use Rattle.np_jobs.specs.Versions.{IsFaultOver, WasBuiltOver};
 ghost use Rattle.np_versions.specs.TableFaults.{IsFaultless};
 
 use crate::faults::VersionFault;
@@ -32,8 +32,14 @@ fn version_of(
     }
 }
 
-/// Reads the exclusions file of a version of which the rows are there, and builds it.
-fn version_over<R: Read>(
+/// Reads the exclusions file of a version of which the rows are there, and builds it. The version has a number, from 0,
+/// which the fault tells.
+///
+/// # Errors
+///
+/// `Exclusions` where the exclusions file is refused; `Tables` where the version has a fault. Want of memory is told as
+/// a fault of what it was wanted for.
+pub fn version_over<R: Read>(
     alloc: Global,
     version: usize,
     rows: RowList,
@@ -95,6 +101,28 @@ impl MadeTable for PageTable {
     }
 }
 
+/// Makes a table over a version. The version has a number, from 0, which the fault tells.
+///
+/// # Errors
+///
+/// `Tables` with want of memory.
+pub fn table_of<T: MadeTable>(
+    alloc: Global,
+    version: usize,
+    built: Version,
+) -> Result<T, VersionFault>
+    ensures table { IfOk result (λ table. T.model table ≡ built) }
+    ensures memory { IfErr result (λ fault. fault ≡ VersionFault.Tables version TableFault.Memory) }
+{
+    match T::of(alloc, built) {
+        Ok(table) => Ok(table),
+        Err(_) => Err(VersionFault::Tables {
+            version,
+            fault: TableFault::Memory,
+        }),
+    }
+}
+
 /// Reads the two files of a version, builds it, and makes a table over it.
 ///
 /// # Errors
@@ -112,11 +140,5 @@ pub fn read_table_of<T: MadeTable, R: Read>(
         (stream_of R.remaining exclusions_file.old exclusions_file.new)) }
 {
     let built = read_version(alloc, version, data_file, exclusions_file)?;
-    match T::of(alloc, built) {
-        Ok(table) => Ok(table),
-        Err(_) => Err(VersionFault::Tables {
-            version,
-            fault: TableFault::Memory,
-        }),
-    }
+    table_of(alloc, version, built)
 }

@@ -10,7 +10,7 @@ use std::alloc::{AllocError, Global};
 
 /// A command that is put together. It is owned by this bound alone: a proof of what owns `clap`'s own command looks at
 /// each of its parts, and takes many times as long.
-trait MadeCommand<'a>: Drop {
+pub(crate) trait MadeCommand<'a>: Drop {
     ghost app: { Self → App };
 
     ghost has_globals: { Self → Bool };
@@ -20,9 +20,9 @@ trait MadeCommand<'a>: Drop {
         ensures app { app result ≡ new_app name.entry.now }
         ensures local { has_globals result ≡ false };
 
-    /// The program, whose words begin with a command.
-    fn program(alloc: Global) -> Self
-        ensures { app result ≡ with_settings (new_app (codes "npss")) };
+    /// A program of this name, whose words begin with a command.
+    fn program(alloc: Global, name: &'a str) -> Self
+        ensures { app result ≡ with_settings (new_app name.entry.now) };
 
     /// The command with one more option or place.
     fn with_arg(self, arg: Arg<'a>) -> Result<Self, AllocError>
@@ -46,8 +46,8 @@ impl<'a> MadeCommand<'a> for Command<'a> {
         Command::new(alloc, name)
     }
 
-    fn program(alloc: Global) -> Command<'a> {
-        Command::new(alloc, "npss")
+    fn program(alloc: Global, name: &'a str) -> Command<'a> {
+        Command::new(alloc, name)
             .no_binary_name(true)
             .subcommand_required(true)
     }
@@ -62,7 +62,7 @@ impl<'a> MadeCommand<'a> for Command<'a> {
 }
 
 /// The option `--form`.
-fn form_arg<'a>(alloc: Global) -> Arg<'a>
+pub(crate) fn form_arg<'a>(alloc: Global) -> Arg<'a>
     ensures rule { rule_of result ≡ form_rule }
     ensures local { result.global ≡ false }
 {
@@ -81,7 +81,7 @@ fn file_arg<'a>(alloc: Global, name: &'a str) -> Arg<'a>
 }
 
 /// The last place of a command, which takes several files.
-fn files_arg<'a>(alloc: Global, name: &'a str) -> Arg<'a>
+pub(crate) fn files_arg<'a>(alloc: Global, name: &'a str) -> Arg<'a>
     ensures rule { rule_of result ≡ files_rule name.entry.now }
     ensures local { result.global ≡ false }
 {
@@ -139,7 +139,7 @@ fn check_under_arg<'a>(alloc: Global) -> Arg<'a>
 }
 
 /// The command that makes keys.
-fn key_command<'a, C: MadeCommand<'a>>(alloc: Global) -> Result<C, AllocError>
+pub(crate) fn key_command<'a, C: MadeCommand<'a>>(alloc: Global) -> Result<C, AllocError>
     ensures app { IfOk result (λ c. C.app c ≡ key_app) }
     ensures local { IfOk result (λ c. C.has_globals c ≡ false) }
 {
@@ -173,7 +173,7 @@ fn replay_command<'a, C: MadeCommand<'a>>(alloc: Global) -> Result<C, AllocError
 fn program_of_texts<'a, C: MadeCommand<'a>>(alloc: Global) -> Result<C, AllocError>
     ensures { IfOk result (λ c. C.app c ≡ texts_app) }
 {
-    let program = C::program(alloc).with_command(text_command(alloc, "normalize")?)?;
+    let program = C::program(alloc, "npss").with_command(text_command(alloc, "normalize")?)?;
     let program = program.with_command(key_command(alloc)?)?;
     program.with_command(text_command(alloc, "compare")?)
 }

@@ -15,6 +15,13 @@ pub struct VersionFiles {
     pub exclusions_file: String,
 }
 
+/// The names of the three files of a version with its folding.
+#[derive(Debug, Drop, PartialEq, Eq)]
+pub struct FoldedFiles {
+    pub version: VersionFiles,
+    pub folding_file: String,
+}
+
 /// The form that the words name.
 #[tactic(auto, using(crate::proofs::MatchLemmas::first_value_in_rows))]
 pub(crate) fn form_in(found: &ArgMatches<'_>) -> Option<Form>

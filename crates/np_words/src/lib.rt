@@ -2,13 +2,15 @@
 //! its files.
 #![tactic(auto)]
 
+mod caseless;
 mod command;
 mod faults;
 mod files;
 mod parsing;
 mod versions;
 
+pub use caseless::{CaselessJob, parse_caseless};
 pub use command::command_on_text;
 pub use faults::{WordsFault, fault_from};
-pub use files::{VersionFiles, form_and_files};
+pub use files::{FoldedFiles, VersionFiles, form_and_files};
 pub use parsing::{Job, parse};

@@ -20,7 +20,7 @@ pub(crate) fn checks_under_in(found: &ArgMatches<'_>) -> bool
 }
 
 /// Two files of a version, by their names.
-fn files_named(
+pub(crate) fn files_named(
     alloc: Global,
     data_file: &str,
     exclusions_file: &str,

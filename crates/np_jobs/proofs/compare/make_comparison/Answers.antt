@@ -14,4 +14,4 @@ returns-in-Ok-clause-answer g c =
 pub returns-in-Err-clause-refused : goal.returns-in-Err-clause-refused
 returns-in-Err-clause-refused g c =
     let is = c.in_ok-is_yes.ensures.equal in
-    inr (c.in-Some.first.now, c.in-Some.second.now, c.in-Some.ensures.some, inr (inr (refl, is.first_assigned, is.second_assigned)))
+    inr (c.in-Some.first.now, c.in-Some.second.now, c.in-Some.ensures.some, inr (refl, is.first_assigned, is.second_assigned))

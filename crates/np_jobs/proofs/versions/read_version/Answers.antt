@@ -1,6 +1,6 @@
 use Rattle.std.proofs.Common.{IfOk, IfErr, subst}
 use Rattle.np_jobs.specs.Streams.{Stream, stream_of}
-use Rattle.np_jobs.specs.inside.VersionSteps.{IsFaultOver, WasBuiltOver}
+use Rattle.np_jobs.specs.Versions.{IsFaultOver, WasBuiltOver}
 use Rattle.np_jobs.proofs.EndLemmas.{same_stream}
 use Rattle.np_jobs.proofs.VersionLemmas.{has_rows, was_built, was_refused}
 use Rattle.np_jobs.proofs.versions.read_version.Goals as goal
