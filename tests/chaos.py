@@ -32,7 +32,7 @@ from harness import Tally
 
 from chaos_history import History, keys_of, try_checker
 from chaos_log import check_log_faults
-from chaos_servers import KINDS, MADE, Proxy, here
+from chaos_servers import KINDS, MADE, Probe, Proxy, here
 from npss_registry import LogAway, LogBroken, Registry, Version, init
 from npss_registry.judge import Judge
 from npss_registry.logs import open_log
@@ -211,6 +211,7 @@ class Chaos:
         self.begin = time.time()
         self.end = self.begin + self.seconds
         self.nodes = [Node(number, self, self.seed * 100 + number) for number in range(NODES)]
+        self.probe = Probe(self.servers.name("probe"), self.end)
 
     def _init(self, number):
         """Makes a node's store; where a busy machine's server doesn't answer in time, once more."""
@@ -238,6 +239,7 @@ class Chaos:
         return [*cut, [str(files[ucd.DATA]), str(files[ucd.EXCLUSIONS])]]
 
     def run(self):
+        self.probe.start()
         for node in self.nodes:
             node.start()
         # Once at least, however short the run is.
@@ -252,8 +254,8 @@ class Chaos:
             self.cut(0.15)
         self.cut(0)
         self.servers.settle()
-        for node in self.nodes:
-            node.join()
+        for thread in (*self.nodes, self.probe):
+            thread.join()
 
     def cut(self, chance):
         """Cuts ways of nodes, or lets them be."""
@@ -263,9 +265,9 @@ class Chaos:
                 proxy.drop(cut)
 
     def pauses(self):
-        """How many seconds behind each end of whoever takes records a name was registered again."""
-        ends = sorted((one.begun, one.ended) for one in self.told.history.registered)
-        return [min(ended for begun, ended in ends if begun >= death) - death for death in self.servers.deaths if ends and ends[-1][0] >= death]
+        """How many seconds behind each end of whoever takes records one was taken again."""
+        taken = self.probe.taken
+        return [min(ended for begun, ended in taken if begun >= death) - death for death in self.servers.deaths if taken and taken[-1][0] >= death]
 
     def judge_meanwhile(self):
         """The judge has to be silent while nodes work, end and are upgraded."""
@@ -365,7 +367,7 @@ def main():
     parser.add_argument("--seconds", type=float, default=180)
     parser.add_argument("--seed", type=int, default=random.SystemRandom().randrange(1_000_000))
     parser.add_argument("--log", choices=KINDS, default=here()[-1])
-    parser.add_argument("--within", type=float, default=60, help="names are registered again so many seconds behind the end of whoever takes records")
+    parser.add_argument("--within", type=float, default=60, help="records are taken again so many seconds behind the end of whoever takes them")
     parser.add_argument("--form", choices=("nfc", "nfkc"), help="else the seed draws it")
     parser.add_argument("program")
     words = parser.parse_args()
@@ -381,8 +383,8 @@ def main():
             chaos.run()
             check(tally, chaos, words.program)
             pauses = chaos.pauses()
-            tally.check("names are registered again", max(pauses, default=0) <= words.within, pauses)
-            print(f"{len(chaos.servers.deaths)} times whoever takes records ended; names were registered again after {max(pauses, default=0):.1f} s at most")
+            tally.check("records are taken again", max(pauses, default=0) <= words.within, pauses)
+            print(f"{len(chaos.servers.deaths)} times whoever takes records ended; they were taken again after {max(pauses, default=0):.1f} s at most")
         finally:
             chaos.servers.close()
     tally.finish()

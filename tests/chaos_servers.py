@@ -9,6 +9,7 @@ import contextlib
 import signal
 import sqlite3
 import sys
+import threading
 import time
 
 from harness import ROOT
@@ -18,6 +19,8 @@ sys.path.append(str(ROOT / "hosts" / "registry" / "tests"))
 
 from log_servers import Etcd, Postgres, RedisServer, is_here, send, waited
 from log_servers import Proxy as Proxy
+from npss_registry import LogAway
+from npss_registry.logs import open_log
 
 KINDS = ("sqlite", "redis", "postgres", "etcd")
 
@@ -192,6 +195,29 @@ class Members(Etcd):
 
     def lose(self, prefix, shard, place, other):
         self._asked("/v3/kv/deleterange", {"key": self._spelled(f"{prefix}/batch/{shard:04x}/{place:016x}")})
+
+
+class Probe(threading.Thread):
+    """Writes records into a log of its own in the same servers, one behind the other, and notes when each was taken."""
+
+    def __init__(self, name, end):
+        super().__init__()
+        self._name, self._end = name, end
+        self.taken = []
+
+    def run(self):
+        log = None
+        while time.time() < self._end:
+            begun = time.monotonic()
+            try:
+                log = log or open_log(self._name, "make")
+                log.append([(0, b"probe")])
+                self.taken.append((begun, time.monotonic()))
+            except LogAway:
+                pass
+            time.sleep(0.1)
+        if log is not None:
+            log.close()
 
 
 MADE = {"sqlite": File, "redis": Redis, "postgres": Cluster, "etcd": Members}
