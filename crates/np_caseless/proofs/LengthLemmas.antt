@@ -100,7 +100,7 @@ module _ (v : VersionData) where
             omega (arith, ap length (full-mapped v false n c mapped), ap length more, weight-more (full v false n) (full v true n) (full_more n) (parts v false c))
       ]
 
-  full_of_more : (c : ℕ) → length (full_of v false c) ≤ length (full_of v true c)
+  pub full_of_more : (c : ℕ) → length (full_of v false c) ≤ length (full_of v true c)
   unfolding full_of
   full_of_more c = full_more 32 c
 
@@ -137,7 +137,8 @@ unfolding folding_at
 folding_some [] c h = omega arith
 folding_some (f ∷ fs) c h = folding_step f fs c (eqb f.code c) refl (All-head IsFolding f fs h).some (folding_some fs c (All-tail IsFolding f fs h))
 
-module _ (v : FoldedVersion) (sound : IsSoundFolding v) where
+-- How many code points come of a string, as of each of its code points.
+module _ (v : FoldedVersion) where
   abbrev D : ℕ → List ℕ
   D = full_of v.version false
 
@@ -151,7 +152,7 @@ module _ (v : FoldedVersion) (sound : IsSoundFolding v) where
   order = canonical_order (class_of v.version)
 
   -- what comes of one code point, compatibly and canonically
-  abbrev twice : ℕ → List ℕ
+  abbrev pub twice : ℕ → List ℕ
   twice = behind (behind (behind (behind K F) K) F) D
 
   abbrev once : ℕ → List ℕ
@@ -177,7 +178,7 @@ module _ (v : FoldedVersion) (sound : IsSoundFolding v) where
       ∙ weight-order (behind D F) (class_of v.version) z
       ∙ weight-twice (behind D F) D xs
 
-  count_compatible : (xs : List ℕ) → length (decomposed v.version true (folded v true xs)) ≡ weight twice xs
+  pub count_compatible : (xs : List ℕ) → length (decomposed v.version true (folded v true xs)) ≡ weight twice xs
   unfolding decomposed normal_form fold_all
   count_compatible xs = count_twice xs
 
@@ -185,6 +186,7 @@ module _ (v : FoldedVersion) (sound : IsSoundFolding v) where
   unfolding decomposed normal_form fold_all
   count_canonical xs = count_once xs
 
+module _ (v : FoldedVersion) (sound : IsSoundFolding v) where
   short_key : (c : ℕ) → length (caseless v Nfkd (c ∷ [])) ≤ 64
   short_key c = sound.short c (caseless v Nfkd (c ∷ [])) (IsCaseless-caseless v sound.version Nfkd (c ∷ []))
 
@@ -192,42 +194,42 @@ module _ (v : FoldedVersion) (sound : IsSoundFolding v) where
   unfolding caseless normal_form
   short_list c = short_key c
 
-  short_twice : (c : ℕ) → length (twice c) ≤ 64
+  short_twice : (c : ℕ) → length (twice v c) ≤ 64
   short_twice c =
       let s = short_list c in
-      let e = count_compatible (c ∷ []) in
-      let same = ap length (append-nil (twice c)) in
+      let e = count_compatible v (c ∷ []) in
+      let same = ap length (append-nil (twice v c)) in
       omega (arith, s, e, same)
 
   -- canonically no more come than compatibly
-  fold_some : (c : ℕ) → 1 ≤ length (F c)
+  fold_some : (c : ℕ) → 1 ≤ length (F v c)
   fold_some c = folding_some v.foldings c sound.foldings.each
 
-  inner_some : (c : ℕ) → 1 ≤ length (behind K F c)
+  inner_some : (c : ℕ) → 1 ≤ length (behind (K v) (F v) c)
   inner_some c =
       let s = fold_some c in
-      let w = weight-least K (λ d. let k = full_of-some v.version true d in omega arith) (F c) in
+      let w = weight-least (K v) (λ d. let k = full_of-some v.version true d in omega arith) (F v c) in
       omega arith
 
-  inner_more : (c : ℕ) → length (D c) ≤ length (behind (behind K F) K c)
-  inner_more c = let m = full_of_more v.version c in let w = weight-least (behind K F) inner_some (K c) in omega arith
+  inner_more : (c : ℕ) → length (D v c) ≤ length (behind (behind (K v) (F v)) (K v) c)
+  inner_more c = let m = full_of_more v.version c in let w = weight-least (behind (K v) (F v)) inner_some (K v c) in omega arith
 
-  middle_more : (c : ℕ) → length (behind D F c) ≤ length (behind (behind (behind K F) K) F c)
-  middle_more c = weight-more D (behind (behind K F) K) inner_more (F c)
+  middle_more : (c : ℕ) → length (behind (D v) (F v) c) ≤ length (behind (behind (behind (K v) (F v)) (K v)) (F v) c)
+  middle_more c = weight-more (D v) (behind (behind (K v) (F v)) (K v)) inner_more (F v c)
 
-  once_more : (c : ℕ) → length (once c) ≤ length (twice c)
-  once_more c = weight-more (behind D F) (behind (behind (behind K F) K) F) middle_more (D c)
+  once_more : (c : ℕ) → length (once v c) ≤ length (twice v c)
+  once_more c = weight-more (behind (D v) (F v)) (behind (behind (behind (K v) (F v)) (K v)) (F v)) middle_more (D v c)
 
-  short_once : (c : ℕ) → length (once c) ≤ 64
+  short_once : (c : ℕ) → length (once v c) ≤ 64
   short_once c = let m = once_more c in let s = short_twice c in omega arith
 
   few_canonical : (composing : Bool) (xs : List ℕ) → length (ended v.version composing (decomposed v.version false (folded v false xs))) ≤ 64 * length xs
   few_canonical composing xs =
-      omega (arith, length-ended v.version composing (decomposed v.version false (folded v false xs)), count_canonical xs, weight-most once short_once xs)
+      omega (arith, length-ended v.version composing (decomposed v.version false (folded v false xs)), count_canonical v xs, weight-most (once v) short_once xs)
 
   few_compatible : (composing : Bool) (xs : List ℕ) → length (ended v.version composing (decomposed v.version true (folded v true xs))) ≤ 64 * length xs
   few_compatible composing xs =
-      omega (arith, length-ended v.version composing (decomposed v.version true (folded v true xs)), count_compatible xs, weight-most twice short_twice xs)
+      omega (arith, length-ended v.version composing (decomposed v.version true (folded v true xs)), count_compatible v xs, weight-most (twice v) short_twice xs)
 
   few_of : (form : Form) (xs : List ℕ) → length (caseless v form xs) ≤ 64 * length xs
   unfolding caseless normal_form

@@ -1,5 +1,16 @@
+pub mod AuditLemmas
+pub mod BackwardLemmas
+pub mod BreakLemmas
+pub mod ChangeLemmas
+pub mod ConditionLemmas
+pub mod ExampleLemmas
+pub mod FineLemmas
+pub mod FirstLemmas
 pub mod FoldLemmas
 pub mod KeyLemmas
+pub mod LeastLemmas
 pub mod LengthLemmas
+pub mod ListedLemmas
 pub mod QuietLemmas
 pub mod StabilityLemmas
+pub mod UnfoldedLemmas

@@ -58,7 +58,7 @@ final_step v c true e h =
     let none : is_empty (decomposition_mapping v c) ≡ true = ap is_empty (sym (cond-true _ (decomposition_mapping v c) [] e)) ∙ h in
     empty_either (counts false (decomposition_kind v c)) (decomposition_mapping v c) none
 
-final_weaker : (v : VersionData) (xs : List ℕ) → list_all (is_final v true) xs ≡ true → list_all (is_final v false) xs ≡ true
+pub final_weaker : (v : VersionData) (xs : List ℕ) → list_all (is_final v true) xs ≡ true → list_all (is_final v false) xs ≡ true
 final_weaker v [] h = refl
 final_weaker v (x ∷ xs) h =
     let both = and_parts (is_final v true x) (list_all (is_final v true) xs) h in
@@ -104,7 +104,7 @@ module _ (v : FoldedVersion) (sound : IsSoundFolding v) where
   key compat composing b = ended v.version composing (decomposed v.version compat b)
 
   -- canonically
-  nfd_of : (composing : Bool) (b : List ℕ) → decomposed v.version false (key false composing b) ≡ decomposed v.version false b
+  pub nfd_of : (composing : Bool) (b : List ℕ) → decomposed v.version false (key false composing b) ≡ decomposed v.version false b
   nfd_of composing b =
       decomposed-ended v.version sound.version composing false (decomposed v.version false b)
       (all_final v.version sound.version false b) (is_ordered-decomposed v.version sound.version false b)
@@ -121,7 +121,7 @@ module _ (v : FoldedVersion) (sound : IsSoundFolding v) where
       (decomposed-final v.version sound.version false u (all_final v.version sound.version false b) (is_ordered-decomposed v.version sound.version false b))
 
   -- compatibly
-  nfd_of_compatible : (composing : Bool) (b : List ℕ) → decomposed v.version false (key true composing b) ≡ decomposed v.version true b
+  pub nfd_of_compatible : (composing : Bool) (b : List ℕ) → decomposed v.version false (key true composing b) ≡ decomposed v.version true b
   nfd_of_compatible composing b =
       decomposed-ended v.version sound.version composing false (decomposed v.version true b)
       (final_weaker v.version (decomposed v.version true b) (all_final v.version sound.version true b)) (is_ordered-decomposed v.version sound.version true b)

@@ -1,6 +1,10 @@
+pub mod Breaks
 pub mod Caseless
+pub mod ConditionFaults
 pub mod Conditions
+pub mod Examples
 pub mod Extension
+pub mod Faults
 pub mod Folded
 pub mod Laws
 pub mod inside

@@ -2,9 +2,25 @@
 //! the same under each later version.
 #![tactic(auto)]
 
+mod audits;
+mod breaks;
+mod faults;
+mod first_faults;
+mod folded_again;
+mod folded_tables;
 mod folding;
+mod folding_changes;
+mod folding_faults;
 mod keys;
 pub mod laws;
+mod leasts;
+mod not_folded;
+mod quiet;
+mod quiet_hangul;
 
+pub use audits::{audit, extends};
+pub use breaks::{FoldedBreak, FoldedBreakKind};
+pub use faults::ConditionFault;
+pub use folded_tables::FoldedTable;
 pub use folding::fold_text;
 pub use keys::{caseless_form, caseless_key, caseless_match};
