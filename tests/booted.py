@@ -13,7 +13,7 @@ from roots import ENVIRONMENT
 # Who types, and where; what the machine calls itself, and the host of the pages' logs, which is this machine too.
 READER, HOME, NAME, HOSTS = "reader", "home/reader", "bare", ("localhost", "bare", "log.example")
 # Seconds for a boot, for a command, and for the end.
-BOOTING, PATIENCE, ENDING = 60, 240, 20
+BOOTING, PATIENCE, ENDING = 120, 600, 30
 # What a boot wants in the root beside systemd's own package.
 PACKAGES = ("systemd-sysv", "sudo")
 

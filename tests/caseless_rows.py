@@ -7,6 +7,7 @@ FOLDER = Path(__file__).resolve().parent.parent / "fixtures" / "caseless"
 SOURCES = Path(__file__).resolve().parent.parent / "crates" / "np_examples_caseless" / "src"
 # A constant's rows, up to their end, and a literal or a word in them.
 ROWS = re.compile(r"pub const (\w+): &\[[^=]*\] = &\[(.*?)\n\];", re.DOTALL)
+TEXTS = re.compile(r'pub const (\w+): &str =\s*"((?:[^"\\]|\\.)*)";')
 ITEM = re.compile(r'"((?:[^"\\]|\\.)*)"|\b(true|false|Form::\w+)\b')
 
 
@@ -42,17 +43,40 @@ def match_rows():
     return rows
 
 
-def edge_rows():
-    """Each file at an edge that is a text, with its fault by the grammar alone."""
+def audit_rows():
+    """Two folders, and what is told of them."""
     rows = []
-    for name, _data, _status, told in split("edges/EXPECTED.txt"):
-        fault = told.removeprefix("version 0 folding: ")
+    for head, *told in split("AUDITS.txt"):
+        if len(head.split()) == 2:
+            rows += [*head.split(), told[1]]
+    return {"AUDITS": rows}
+
+
+def edges():
+    """Each file at an edge that is a text, with its data, its status and what is told of it."""
+    for name, data, status, told in split("edges/EXPECTED.txt"):
         try:
             text = (FOLDER / "edges" / name).read_bytes().decode("utf-8")
         except UnicodeDecodeError:
             continue
-        rows += [text, fault if fault.startswith("line ") else ""]
+        yield text, data, status, told.removeprefix("version 0 folding: ")
+
+
+def edge_rows():
+    """The files at the edges, with their faults by the grammar alone."""
+    rows = []
+    for text, _data, _status, told in edges():
+        rows += [text, told if told.startswith("line ") else ""]
     return {"EDGES": rows}
+
+
+def condition_rows():
+    """The files that have no fault of the grammar, with their faults beside their data, by the constant that has them."""
+    rows = {}
+    for text, data, status, told in edges():
+        if not told.startswith("line "):
+            rows.setdefault(f"{data.upper()}_CONDITIONS", []).extend((text, told if status == "4" else ""))
+    return rows
 
 
 def rows_of(source, unescaped):
@@ -62,7 +86,12 @@ def rows_of(source, unescaped):
 
 
 def check(tally, unescaped):
-    for source, wanted in (("key_rows.rt", key_rows()), ("match_rows.rt", match_rows()), ("edge_rows.rt", edge_rows())):
+    data = {name: unescaped(text) for name, text in TEXTS.findall((SOURCES / "condition_rows.rt").read_text(encoding="utf-8"))}
+    for name in ("lower", "deep"):
+        text = (FOLDER / "edges" / f"{name}.data").read_text(encoding="utf-8")
+        tally.check(f"the data of {name}", data.get(f"DATA_OF_{name.upper()}") == text, "not the file of fixtures/caseless/edges")
+    for source, wanted in (("key_rows.rt", key_rows()), ("match_rows.rt", match_rows()), ("edge_rows.rt", edge_rows()),
+                           ("condition_rows.rt", condition_rows()), ("audit_rows.rt", audit_rows())):
         got = rows_of(source, unescaped)
         for name in sorted(wanted.keys() | got.keys()):
             tally.check(f"{source}: {name}", wanted.get(name) and got.get(name) == wanted.get(name), "not the rows of fixtures/caseless")

@@ -1,11 +1,11 @@
 #!/usr/bin/env python3
-"""tests/chaos.py [--seconds N] [--seed S] [--log sqlite|redis] [--form nfc|nfkc] PROGRAM: five nodes of a registry that are
-killed, cut off and upgraded.
+"""tests/chaos.py [--seconds N] [--seed S] [--log sqlite|redis|postgres|etcd] [--form nfc|nfkc] [--within N] PROGRAM: five nodes
+of a registry that are killed, cut off and upgraded.
 
 PROGRAM is npss, with which the judge replays. The nodes are processes of their own (chaos_node.py), whose versions are
 13.0, 14.0 and 15.0 of the published files, the earlier two cut from the last. Each ends itself at a write to store or
-log that the seed draws; a Redis server is killed and started again, and nodes are cut off from it by a proxy that drops;
-nodes are upgraded in any order; names are claimed at all nodes at once, given up, and claimed again. Names with young
+log that the seed draws; the log's servers are killed, stopped and started again, a standby of PostgreSQL is promoted
+(chaos_servers.py), and nodes are cut off from them by proxies that drop; nodes are upgraded in any order; names are claimed at all nodes at once, given up, and claimed again. Names with young
 code points are claimed at nodes that have them, and old ones of the same keys at nodes that don't. Meanwhile and at the
 end the judge has to be silent. At the end nodes that read on register the same, each key has one holder and is what PROGRAM
 makes under the last version, and what was answered over time can be (chaos_history.py): each key has one holder at each
@@ -19,9 +19,7 @@ import argparse
 import contextlib
 import json
 import random
-import shutil
 import signal
-import sqlite3
 import subprocess
 import sys
 import tempfile
@@ -34,7 +32,7 @@ from harness import Tally
 
 from chaos_history import History, keys_of, try_checker
 from chaos_log import check_log_faults
-from chaos_servers import Proxy, Server
+from chaos_servers import KINDS, MADE, Probe, Proxy, here
 from npss_registry import LogAway, LogBroken, Registry, Version, init
 from npss_registry.judge import Judge
 from npss_registry.logs import open_log
@@ -197,8 +195,9 @@ class Chaos:
         # Names of old code points, each with the version that has a young one of its key, which was claimed somewhere.
         self.old = []
         self.files = self._versions()
-        self.server = Server(folder) if words.log == "redis" else None
-        self.proxies = [Proxy(self.server.port) for _ in range(NODES)] if self.server else []
+        self.servers = MADE[words.log](folder)
+        # Each node reaches the servers in ways of its own.
+        self.proxies = [[Proxy(port) for port in self.servers.ports] for _ in range(NODES)]
         drawn = self.source.choice(("nfc", "nfkc"))
         setup = Setup(words.form or drawn, self.source.choice((40, 65536)), self.source.choice((1, 3)), self.source.random() < 0.2)
         self.setup = setup
@@ -212,6 +211,7 @@ class Chaos:
         self.begin = time.time()
         self.end = self.begin + self.seconds
         self.nodes = [Node(number, self, self.seed * 100 + number) for number in range(NODES)]
+        self.probe = Probe(self.servers.name("probe"), self.end)
 
     def _init(self, number):
         """Makes a node's store; where a busy machine's server doesn't answer in time, once more."""
@@ -228,7 +228,7 @@ class Chaos:
         return self.folder / f"store{number}"
 
     def log(self, number):
-        return f"redis://127.0.0.1:{self.proxies[number].port}/0#chaos" if self.server else str(self.folder / "log")
+        return self.servers.name("chaos", [proxy.port for proxy in self.proxies[number]])
 
     def _versions(self):
         files, why = ucd.package_files()
@@ -239,23 +239,35 @@ class Chaos:
         return [*cut, [str(files[ucd.DATA]), str(files[ucd.EXCLUSIONS])]]
 
     def run(self):
+        self.probe.start()
         for node in self.nodes:
             node.start()
+        # Once at least, however short the run is.
+        due = self.begin + self.source.uniform(0.1, 0.3) * self.seconds
         while time.time() < self.end:
             time.sleep(self.source.uniform(0.5, 2.0))
-            if self.server and self.source.random() < 0.2:
-                self.server.kill()
-                time.sleep(self.source.uniform(0, 0.5))
-                self.server.start()
+            if self.source.random() < 0.2 or time.time() > due:
+                self.servers.trouble(self.source)
+                due = self.end
             if self.source.random() < 0.15:
                 self.judge_meanwhile()
-            for proxy in self.proxies:
-                proxy.drop(self.source.random() < 0.15)
-        for proxy in self.proxies:
-            proxy.drop(False)
-        for node in self.nodes:
-            node.join()
+            self.cut(0.15)
+        self.cut(0)
+        self.servers.settle()
+        for thread in (*self.nodes, self.probe):
+            thread.join()
 
+    def cut(self, chance):
+        """Cuts ways of nodes, or lets them be."""
+        for proxies in self.proxies:
+            cut = self.source.random() < chance
+            for proxy in proxies:
+                proxy.drop(cut)
+
+    def pauses(self):
+        """How many seconds behind each end of whoever takes records one was taken again."""
+        taken = self.probe.taken
+        return [min(ended for begun, ended in taken if begun >= death) - death for death in self.servers.deaths if taken and taken[-1][0] >= death]
 
     def judge_meanwhile(self):
         """The judge has to be silent while nodes work, end and are upgraded."""
@@ -296,13 +308,8 @@ def check_lost_tail(tally, chaos):
     lasts = log.lasts(chaos.setup.shards)
     log.close()
     place = max(lasts)
-    if chaos.server:
-        import redis
-
-        redis.Redis(port=chaos.server.port).xdel(f"{name.partition('#')[2]}:{lasts.index(place)}", f"0-{place}")
-    else:
-        with contextlib.closing(sqlite3.connect(name)) as base, base:
-            base.execute("UPDATE record SET body = ? WHERE place = ?", (spelled(Forget("another", 1)), place))
+    prefix = name.partition("#")[2] or Path(name).name
+    chaos.servers.lose(prefix, lasts.index(place), place, spelled(Forget("another", 1)))
     try:
         Registry(str(chaos.store(1))).abandon()
         tally.check("a log that lost its tail is refused", False, "it is read on")
@@ -359,7 +366,8 @@ def main():
     parser = argparse.ArgumentParser()
     parser.add_argument("--seconds", type=float, default=180)
     parser.add_argument("--seed", type=int, default=random.SystemRandom().randrange(1_000_000))
-    parser.add_argument("--log", choices=("sqlite", "redis"), default="redis" if shutil.which("redis-server") else "sqlite")
+    parser.add_argument("--log", choices=KINDS, default=here()[-1])
+    parser.add_argument("--within", type=float, default=60, help="records are taken again so many seconds behind the end of whoever takes them")
     parser.add_argument("--form", choices=("nfc", "nfkc"), help="else the seed draws it")
     parser.add_argument("program")
     words = parser.parse_args()
@@ -368,14 +376,17 @@ def main():
     tally = Tally()
     try_checker(tally)
     with tempfile.TemporaryDirectory() as name:
+        Path(name).chmod(0o755)  # PostgreSQL runs as another user than root
         chaos = Chaos(Path(name), words)
         try:
             chaos.begin_nodes()
             chaos.run()
             check(tally, chaos, words.program)
+            pauses = chaos.pauses()
+            tally.check("records are taken again", max(pauses, default=0) <= words.within, pauses)
+            print(f"{len(chaos.servers.deaths)} times whoever takes records ended; they were taken again after {max(pauses, default=0):.1f} s at most")
         finally:
-            if chaos.server:
-                chaos.server.kill()
+            chaos.servers.close()
     tally.finish()
 
 

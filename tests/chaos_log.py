@@ -24,39 +24,18 @@ class Log:
     """The bytes of a log, apart from the registry's code: they are kept, and put back."""
 
     def __init__(self, chaos, name):
-        self._port, self._shards = chaos.server and chaos.server.port, chaos.setup.shards
-        self.folder, self._name = chaos.folder, name
+        self._servers, self._shards, self._name = chaos.servers, chaos.setup.shards, name
 
     @property
     def name(self):
-        return f"redis://127.0.0.1:{self._port}/0#{self._name}" if self._port else str(self.folder / self._name)
-
-    def _server(self):
-        import redis
-
-        return redis.Redis(port=self._port)
+        return self._servers.name(self._name)
 
     def keep(self):
         """What puts back the log as it is now."""
-        if self._port:
-            server = self._server()
-            return {f"{self._name}:{shard}": server.xrange(f"{self._name}:{shard}") for shard in range(self._shards)}
-        kept = self.folder / "kept"
-        kept.unlink(missing_ok=True)
-        with contextlib.closing(sqlite3.connect(self.name)) as base, contextlib.closing(sqlite3.connect(kept)) as copy:
-            base.backup(copy)
-        return kept
+        return self._servers.keep(self._name, self._shards)
 
     def bring_back(self, kept):
-        if not self._port:
-            with contextlib.closing(sqlite3.connect(kept)) as copy, contextlib.closing(sqlite3.connect(self.name)) as base:
-                copy.backup(base)
-            return
-        server = self._server()
-        for stream, entries in kept.items():
-            server.delete(stream)
-            for identifier, fields in entries:
-                server.xadd(stream, fields, id=identifier)
+        self._servers.bring_back(self._name, kept)
 
 
 def rows_of(path):
@@ -182,7 +161,7 @@ def check_brought_back(tally, chaos):
     """A log that is brought back older stops each node that has read more."""
     path = chaos.store(0)
     node = Registry(str(path))
-    log = Log(chaos, Path(node.store.log).name if chaos.server is None else node.store.log.partition("#")[2])
+    log = Log(chaos, node.store.log.partition("#")[2] or Path(node.store.log).name)
     kept = log.keep()
     told = node.claim("brought back", "k")
     node.close()

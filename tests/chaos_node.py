@@ -14,7 +14,7 @@ from contextlib import contextmanager, suppress
 
 from npss import Refused
 from npss_registry import LogAway, LogBroken, NotOneChain, Version
-from npss_registry.logs import RedisLog, SqliteLog
+from npss_registry.logs import SqliteLog, kind_of
 from npss_registry.records import Forget, read, spelled
 from npss_registry.registry import Registry
 from npss_registry.store import Store
@@ -41,9 +41,18 @@ class Ends:
 REPEATED = 0.2
 
 
+def kinds():
+    """The kinds of logs of which there is what they want."""
+    found = [SqliteLog]
+    for name in ("redis://", "postgresql://", "etcd://"):
+        with suppress(LogAway):
+            found.append(kind_of(name))
+    return found
+
+
 def hooked(ends, source, repeated=REPEATED):
     """Store and logs whose writes are counted."""
-    commit, appends = Store.transaction, {log: (log.append, log.begin) for log in (SqliteLog, RedisLog)}
+    commit, appends = Store.transaction, {log: (log.append, log.begin) for log in kinds()}
 
     @contextmanager
     def transaction(self):

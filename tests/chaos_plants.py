@@ -20,7 +20,7 @@ from harness import ROOT, Tally
 
 # What chaos runs over, in turn, and its first seed, one of a registry that refuses equivalents.
 RUNS, SEED = (("sqlite", "nfkc"), ("redis", "nfc"), ("sqlite", "nfc"), ("redis", "nfkc")), 3
-# For each bug its file, a text that stands there once, and what stands there in its place.
+# For each bug its file, a text that stands there once, and what stands there in its place; or several of both.
 PLANTS = {
     "a transaction is split in two": ("registry.py", """                with self._writing():
                     for number, piece in pieces.items():
@@ -87,6 +87,29 @@ TESTED = {
     "a symbolic link is another store": ("store.py", """    file = os.path.realpath(path)
 """, """    file = os.path.abspath(path)
 """, "Restarts.test_a_symbolic_link_is_the_store"),
+    "a place is shown before its commit": ("logs/postgres_log.py", (
+        'f"npss log {self._name}"', 'f"SELECT coalesce(max(place), 0), {SETTINGS} FROM {{table}}"'),
+        ('f"npss log {id(self)}"', 'f"SELECT (extract(epoch FROM clock_timestamp()) * 1000000)::bigint, {SETTINGS}"'), "PostgresKind.test_records_become_visible_in_their_order"),
+    "the barrier is left out": ("logs/postgres_cluster.py", """        with self.writing(base):
+            base.execute("SELECT pg_logical_emit_message(true, 'npss', '')")
+""", "", "PostgresFaults.test_what_no_standby_has_is_not_read"),
+    "a wait that was cancelled is an answer": ("logs/postgres_cluster.py", "if base.warning is not None:", "if False:",
+                                               "PostgresFaults.test_a_wait_that_somebody_cancels_is_no_answer"),
+    "a primary without standbys is used on": ("logs/postgres_log.py", """        self._cluster.check(found[1:])
+""", "", "PostgresSettings.test_a_primary_that_waits_for_nobody"),
+    "a compare is left out": ("logs/etcd_log.py", """            "compare": [unchanged(self._tail_key(shard), tail) for shard, tail in tails.items()],
+""", """            "compare": [],
+""", "EtcdKind.test_records_become_visible_in_their_order"),
+    "a try without an answer is made again as another one": ("logs/etcd_log.py", "if own and own[0][1][:_WORD] == word:", "if False:",
+                                                             "EtcdFaults.test_what_got_no_answer_from_one_member_is_done_once"),
+    "what one member alone has is read": ("logs/etcd_log.py", """self._cluster.ask("/v3/kv/range", {"key": spelled(key),""",
+                                          """self._cluster.ask("/v3/kv/range", {"serializable": True, "key": spelled(key),""",
+                                          "EtcdFaults.test_what_one_member_alone_has_is_not_read"),
+    "what Redis is set to is looked at once": ("logs/redis_log.py", """            self._check_settings(settings)
+            return""", """            return""", "RedisSettings.test_each_setting_is_looked_at_while_a_log_is_used"),
+    "a password stays in the store": ("store.py", "self.named_log = without_password(self._base, file, self.named_log)", "pass",
+                                      "Passwords.test_a_store_that_holds_it_is_read_on_and_loses_it"),
+    "another past is another address": ("address.py", "if total != wanted:", "if False:", "Renaming.test_a_log_of_another_past"),
     "a file of two names is two stores": ("lock.py", """        if found.st_nlink > 1:
 """, """        if False:
 """, "Restarts.test_no_other_name_of_a_store_gets_round_its_lock"),
@@ -104,9 +127,11 @@ def planted(folder, name):
     copy = copied(folder)
     path = copy / "npss_registry" / file
     text = path.read_text(encoding="utf-8")
-    if text.count(old) != 1:
-        raise SystemExit(f"{name}: the text to be edited stands {text.count(old)} times in {file}")
-    path.write_text(text.replace(old, new), encoding="utf-8")
+    for before, behind in [(old, new)] if isinstance(old, str) else zip(old, new):
+        if text.count(before) != 1:
+            raise SystemExit(f"{name}: the text to be edited stands {text.count(before)} times in {file}")
+        text = text.replace(before, behind)
+    path.write_text(text, encoding="utf-8")
     return copy
 
 

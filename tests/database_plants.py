@@ -1,8 +1,8 @@
 #!/usr/bin/env python3
 """tests/database_plants.py [--only WORDS..] [--unchecked] [--prefix PREFIX]: plants bugs into the extensions for databases.
 
-Each bug is one edit of a copy of databases/, which the tests of its extension have to find: first those run that are meant
-to, and where they pass all. Before, all run over the extensions as they are, and have to pass. WORDS choose the bugs whose
+Each bug is one edit of a copy of databases/, or of the page on them, which the tests of its extension have to find: first
+those run that are meant to, and where they pass all. Before, all run over the extensions as they are, and have to pass. WORDS choose the bugs whose
 names have them. PREFIX is where ./build-c installed the library, that of this tree where none is named. On demand: not called
 by ./test; an hour. Ends in a line 'N passed, M failed'.
 """
@@ -24,6 +24,7 @@ from harness import ROOT, Tally
 KEYS, REFUSALS, QUESTIONS, WHY, RECORD, RAISE, OWNER, FILES, VERSIONS, SETTINGS = (
     f"postgresql/{name}.c" for name in ("keys", "refusals", "questions", "why", "record", "raise", "owner", "files", "versions", "npss_pg"))
 SQL, NEWER_SQL, CONTROL = (f"postgresql/{name}" for name in ("npss--0.2.sql", "npss--0.2--0.3.sql", "npss.control"))
+PAGE = "docs/DATABASES.md"
 LITE, LITE_RECORD, LITE_RAISE, LITE_FILES, LITE_ATTACHED = (f"sqlite/{name}.c" for name in ("npss_sqlite", "record", "raise", "files", "attached"))
 
 # The tests that are meant to find a bug, where it names no others.
@@ -123,6 +124,9 @@ PLANTS = {
     "a name may be any text": (SQL, "CHECK (VALUE = npss_nfc(VALUE))", "CHECK (npss_nfc(VALUE) IS NOT NULL)"),
     "a dump lacks the record": (SQL, "SELECT pg_catalog.pg_extension_config_dump(", "SELECT concat(", "Dumps"),
     "a dump has the whole record": (SQL, "'WHERE assigned = (SELECT max(assigned) FROM @extschema@.npss_record)'", "''", "Dumps"),
+    # PostgreSQL: what the page tells to write
+    "the page folds the case of what has no key yet": (PAGE, "(npss_nfkc(lower(npss_nfkc(name))) COLLATE", "(npss_nfkc(lower(name)) COLLATE", "Page"),
+    "the page makes no key of what was folded": (PAGE, "(npss_nfkc(lower(npss_nfkc(name))) COLLATE", "(lower(npss_nfkc(name)) COLLATE", "Page"),
     # SQLite: raises
     "SQLite: a failed raise is not rolled back": (LITE_RAISE, "is_whole ? \"ROLLBACK\"", "is_whole ? \"RELEASE npss_raise\""),
     "SQLite: a failed raise within a transaction is not rolled back": (LITE_RAISE, "\"ROLLBACK TO npss_raise; RELEASE npss_raise\"", "\"RELEASE npss_raise\""),
@@ -191,15 +195,25 @@ PLANTS = {
 
 
 def planted(folder, name):
-    """A copy of databases/ with a bug in it; without one where none is named."""
+    """A copy of databases/ with a bug in it, or in the page beside it; without one where none is named."""
     copy = shutil.copytree(ROOT / "databases", Path(folder, "databases"), ignore=shutil.ignore_patterns("__pycache__", "out", "*.o", "*.so"))
+    shutil.copytree(ROOT / "fixtures", Path(folder, "fixtures"))
+    Path(folder, PAGE).parent.mkdir()
+    shutil.copy(ROOT / PAGE, Path(folder, PAGE))
     if name:
         file, old, new = PLANTS[name][:3]
-        text = (copy / file).read_text(encoding="utf-8")
+        path = Path(folder, file) if file == PAGE else copy / file
+        text = path.read_text(encoding="utf-8")
         if text.count(old) != 1:
             raise RuntimeError(f"the text to be edited stands {text.count(old)} times in {file}")
-        (copy / file).write_text(text.replace(old, new), encoding="utf-8")
+        path.write_text(text.replace(old, new), encoding="utf-8")
     return copy
+
+
+def kind_of(name):
+    """The extension whose tests find a bug."""
+    kind = PLANTS[name][0].partition("/")[0]
+    return "postgresql" if kind == "docs" else kind
 
 
 def end_servers(folder):
@@ -240,7 +254,7 @@ def is_found(kind, name, prefix, versions):
     """Whether the tests of an extension fail over a bug, or over none."""
     with tempfile.TemporaryDirectory() as folder:
         Path(folder).chmod(0o1777)  # valgrind writes there as the user of the servers
-        words = [*built(planted(folder, name), kind, prefix), versions, *([ROOT / "fixtures"] if kind == "postgresql" else []), "-f"]
+        words = [*built(planted(folder, name), kind, prefix), versions, *([Path(folder, "fixtures")] if kind == "postgresql" else []), "-f"]
         if name and fails(folder, [*words, *(PLANTS[name][3:] or FIRST[kind])]):
             return True
         return fails(folder, words)
@@ -265,7 +279,7 @@ def main():
     parser.add_argument("--prefix", type=Path, default=ROOT / "out" / "c")
     words = parser.parse_args()
     prefix, tally = words.prefix.resolve(), Tally()
-    kinds = {name: PLANTS[name][0].partition("/")[0] for name in PLANTS if any(some in name for some in words.only)}
+    kinds = {name: kind_of(name) for name in PLANTS if any(some in name for some in words.only)}
     files, why = ucd.package_files()
     if files is None:
         sys.exit(f"tests/database_plants.py: {why}")

@@ -151,6 +151,25 @@ def check_c(tally, prefix, folder):
             counted(tally, "threads under helgrind", ["valgrind", "-q", "--tool=helgrind", "--error-exitcode=9", program, *V1, 500])
 
 
+def check_history(tally, program, prefix, folder):
+    """A history of three nodes by the calls of C: it checks its replies, and `npss replay` has the same over its schedule."""
+    history = compiled(tally, prefix, folder, "history")
+    if history is None:
+        return
+    told = done(tally, "a history by the calls", [history, *V1, *V2]) or ""
+    ended = re.search(r"^(\d+) passed, 0 failed$", told, re.MULTILINE)
+    if tally.check("a history by the calls: its checks", ended, told[-500:]):
+        tally.passed += int(ended[1])
+    if not program.exists():
+        print("skipped: the history beside the program: no program")
+        return
+    schedule = folder / "history.schedule"
+    schedule.write_text(done(tally, "its schedule", [history]) or "", encoding="ascii")
+    _, report, error = run(program, ["replay", "--form", "nfc", schedule, *V1, *V2])
+    lines = [line for line in report.decode().splitlines() if not line.startswith("entry ")]
+    tally.check("a history by the calls: the replies of `npss replay`", lines and told.splitlines()[:-1] == lines, (told, report, error))
+
+
 def page_program(page, language):
     """The first program in a language of a page; None where it has none."""
     found = re.search(rf"```{language}\n(.*?)```", (ROOT / page).read_text(encoding="utf-8"), re.DOTALL)
@@ -352,6 +371,7 @@ def main():
         check_header(tally, prefix, folder)
         check_names(tally, prefix)
         check_c(tally, prefix, folder)
+        check_history(tally, Path(sys.argv[1]).resolve(), prefix, folder)
         check_flags(tally, prefix, folder)
         environment = check_python(tally, prefix, folder)
         check_rust(tally, prefix, folder)

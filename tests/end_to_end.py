@@ -26,6 +26,7 @@ from large import check_large
 from launching import check_after_gate, check_building, check_order
 from limits import check_longest, check_memory, check_usage
 from replays import replay, replay_cases, schedules
+from sayings import check_sayings
 from streams import check_closed, check_closed_input, check_words
 from vanishing import check_vanishing
 from versions import V1, write_all
@@ -128,13 +129,13 @@ def main():
         check_memory(tally, program, folder)
         check_longest(tally, program, folder)
         check_large(tally, program, folder)
+        check_sayings(tally, program)
         if len(sys.argv) > 2:
             check_launcher(tally, Path(sys.argv[2]).resolve(), folder)
             check_building(tally, Path(sys.argv[2]).resolve(), Path(name))
             check_order(tally, Path(sys.argv[2]).resolve(), Path(name))
             check_after_gate(tally, Path(sys.argv[2]).resolve(), Path(name))
             check_page(tally, "README.md")
-            check_page(tally, "docs/BULK.md")
         tally.check("files are as they were", state_of(folder) == before, "a file changed")
     tally.finish()
 

@@ -71,7 +71,7 @@ def files(wanted):
     found = {str(path.relative_to(folder)): path.read_bytes().decode("utf-8")
              for path in sorted(folder.rglob("*")) if path.is_file() and "caseless" not in path.relative_to(folder).parts}
     found |= {f"caseless/{version}/CaseFolding.txt": (folder / "caseless" / version / "CaseFolding.txt").read_text(encoding="utf-8")
-              for version in ("v1", "v2")}
+              for version in ("v1", "v2", "changed")}
     has_scripts = any(name.startswith("scripts/") for name in wanted)
     return {name: text for name, text in found.items() if has_scripts or not name.startswith("scripts/")}
 

@@ -15,7 +15,10 @@ TOLD = ("gcc", "libc6-dev", "pkg-config", "cargo")
 FETCHING = 400
 REGISTRY, PURGE = "docs/REGISTRY.md", "sudo apt purge"
 UNIT, STORE, TOKEN = "npss-registry", "/var/lib/npss-registry/store", "/etc/npss-registry/token"
-ASKED = "curl -s --retry 30 --retry-connrefused --retry-delay 1 -o /dev/null -w '%{{http_code}}' http://127.0.0.1:8765{} -H \"Authorization: Bearer $(sudo cat " + TOKEN + ")\" {}"
+ASKED = ("curl -s --retry 30 --retry-connrefused --retry-delay 1 -o /dev/null -w '%{{http_code}}' http://127.0.0.1:8765{} "
+         f'-H "Authorization: Bearer $(sudo cat {TOKEN})" {{}}')
+# What of npss stands anywhere, but folders and what was kept for later.
+LEFT = "dpkg -l | grep npss; find /usr /etc /lib /var -name '*npss*' -not -type d -not -path '/var/cache/*' -not -path '/var/lib/*npss*'"
 # What the tables of the pages answer: by PostgreSQL, whose database is the README's, and by SQLite.
 FOUND = """sudo -u postgres psql -qAtd readme -c "SELECT name FROM account WHERE npss_nfkc(name) COLLATE \\"C\\" = npss_nfkc('Zo\xeb')" """
 TAKEN = """! sudo -u postgres psql -qAtd readme -c "INSERT INTO account (name) VALUES ('Zo' || 'e' || U&'\\0308')" """
@@ -24,8 +27,8 @@ KEPT = """sqlite3 -cmd '.load /usr/lib/sqlite3/npss' ~/databases/accounts.db "SE
 
 def fetched(root):
     """Installs what the reader has, and fetches what the pages tell to install; what failed, or nothing."""
-    for words in (["apt-get", "update", "-q"], ["apt-get", "install", "-q", "-y", "--no-install-recommends", *HAS],
-                  ["apt-get", "install", "-q", "-y", "--no-install-recommends", "--download-only", *TOLD]):
+    (root.folder / "etc/apt/apt.conf.d/99bare").write_text('APT::Install-Recommends "false";\n', encoding="ascii")
+    for words in (["apt-get", "update", "-q"], ["apt-get", "install", "-q", "-y", *HAS], ["apt-get", "install", "-q", "-y", "--download-only", *TOLD]):
         done = subprocess.run(["chroot", root.folder, *words], env=ENVIRONMENT, stdin=subprocess.DEVNULL, stdout=subprocess.PIPE, stderr=subprocess.STDOUT,
                               text=True, timeout=FETCHING, check=False)
         if done.returncode:
@@ -97,9 +100,10 @@ def check_upgrade(tally, machine):
     answers = [asked(machine, path, body) for path, body in (("/find", '{"name": "Zoe\u0308"}'), ("/claim", '{"name": "Ana", "owner": "2"}'),
                                                              ("/claim", '{"name": "Zo\xeb", "owner": "2"}'))]
     tally.same("names stay, and more are registered", answers, ["200", "201", "409"])
-    for name, line, wanted in (("PostgreSQL finds its name", FOUND, "Zo\xeb\n"), ("PostgreSQL refuses it again", TAKEN, None), ("SQLite finds its name", KEPT, "Zo\xeb\n")):
+    for name, line, wanted in (("PostgreSQL finds its name", FOUND, "Zo\xeb\n"), ("PostgreSQL refuses it again", TAKEN, "duplicate key"),
+                               ("SQLite finds its name", KEPT, "Zo\xeb\n")):
         status, written = machine.types(line)
-        tally.check(f"behind the upgrade {name}", status == 0 and wanted in (None, written), f"status {status}: {written}")
+        tally.check(f"behind the upgrade {name}", status == 0 and wanted in written, f"status {status}: {written}")
 
 
 def check_removal(tally, machine):
@@ -109,8 +113,8 @@ def check_removal(tally, machine):
     tally.same("a removal stops the service", (active(machine)["ActiveState"], machine.types("! curl -s http://127.0.0.1:8765/health")[0]), ("inactive", 0))
     text = next(text for language, text in blocks("docs/INSTALL.md") if text.startswith(PURGE))
     Reader(tally, machine, "docs/INSTALL.md", f"/{booted.HOME}").judge(text, machine.types(text))
-    left = machine.run("sh", "-c", "dpkg -l | grep npss; find /usr /etc /lib /var -name '*npss*' -not -path '/var/cache/*' -not -path '/var/lib/private/*'")[1].split()
-    made = {"/etc/npss-registry", "/etc/postgresql/15/main/conf.d/npss.conf", "/var/lib/npss", "/var/lib/npss-registry"}
+    left = machine.run("sh", "-c", LEFT)[1].split()
+    made = {"/etc/postgresql/15/main/conf.d/npss.conf", "/var/lib/npss-registry"}
     tally.same("what is left is what was made", sorted(set(left) - made), [])
     tally.check("the store and the token stay", machine.run("test", "-e", STORE)[0] == 0 and machine.run("test", "-e", TOKEN)[0] == 0)
 

@@ -296,8 +296,9 @@ def check_root(tally, root, made, prefix, release, room):
     check_removal(tally, root, some, before)
     check_programs(tally, root, "npss")
     check_c_again(tally, root, "C over /usr/local")
-    for name in ("bin/npss", "bin/npss_lines", "bin/npss_caseless", "include/npss.h", *(str(path.relative_to(prefix)) for path in (prefix / "lib").glob("libnpss*"))):
-        (root.folder / "usr/local" / name).unlink()
+    for path in prefix.rglob("*"):
+        if path.is_symlink() or path.is_file():
+            (root.folder / "usr/local" / path.relative_to(prefix)).unlink()
     root.run("ldconfig")
 
 

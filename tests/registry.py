@@ -2,10 +2,10 @@
 """tests/registry.py PROGRAM [PREFIX] [--seconds N]: tests the registry of hosts/registry, and runs it in chaos.
 
 PROGRAM is npss. PREFIX is where ./build-c installed the library, that of this tree where none is named; the module npss is
-built over it. In turn: the registry's own tests; chaos over a SQLite file and over a Redis server, for N seconds together,
-30 where nobody says otherwise, and behind each the log's own faults, which take some 10 seconds. Run as root it installs
-Debian's redis-server, python3-redis, python3-starlette, python3-uvicorn, python3-prometheus-client, mypy and chromium where
-they are missing, unless NO_APT=1 is set; what can't be had is skipped, with its name. Ends in a line 'N passed, M failed'.
+built over it. In turn: the registry's own tests; chaos over a log of each kind of which there are a server and a client, a
+SQLite file, Redis, PostgreSQL and etcd, for N seconds each, 20 where nobody says otherwise, and behind each the log's own
+faults, which take some 10 seconds. Run as root it installs Debian's packages of PACKAGES where they are missing, unless
+NO_APT=1 is set; what can't be had is skipped, with its name. Ends in a line 'N passed, M failed'.
 """
 
 import argparse
@@ -20,17 +20,27 @@ from pathlib import Path
 from harness import ROOT, Tally, install
 
 HOST = ROOT / "hosts" / "registry"
-PACKAGES = ("redis-server", "python3-redis", "python3-starlette", "python3-uvicorn", "python3-prometheus-client", "mypy", "chromium")
-MODULES = "import prometheus_client, redis, starlette, uvicorn"
+PACKAGES = ("redis-server", "python3-redis", "postgresql", "python3-psycopg", "etcd-server", "python3-starlette", "python3-uvicorn",
+            "python3-prometheus-client", "mypy", "chromium")
+# What all of it wants, and what all but PostgreSQL's does.
+MODULES = ("import prometheus_client, psycopg, redis, starlette, uvicorn", "import prometheus_client, redis, starlette, uvicorn")
+PROGRAMS = ("redis-server", "etcd", "mypy", "chromium")
 SYSTEM_PYTHON = "/usr/bin/python3"
 
 
-def with_modules():
-    """A Python that has the modules; else this one, and what is missing is told."""
-    for python in (sys.executable, SYSTEM_PYTHON):
-        if Path(python).exists() and subprocess.run([python, "-c", MODULES], stderr=subprocess.DEVNULL, check=False).returncode == 0:
-            return python
+def with_modules(wanted=MODULES):
+    """A Python that has the modules, as many as there are; None where there is none."""
+    for modules in wanted:
+        for python in (sys.executable, SYSTEM_PYTHON):
+            if Path(python).exists() and subprocess.run([python, "-c", modules], stderr=subprocess.DEVNULL, check=False).returncode == 0:
+                return python
     return None
+
+
+def kinds_here(python, environment):
+    """The kinds of logs of which a Python has the client and this machine the server."""
+    words = [python, "-c", f"import sys; sys.path.insert(0, {str(ROOT / 'tests')!r}); import chaos_servers; print(*chaos_servers.here())"]
+    return subprocess.run(words, env=environment, stdout=subprocess.PIPE, text=True, check=True).stdout.split()
 
 
 def counted(tally, name, command, environment):
@@ -52,7 +62,7 @@ def main():
     parser = argparse.ArgumentParser()
     parser.add_argument("program", type=Path)
     parser.add_argument("prefix", nargs="?", type=Path, default=ROOT / "out" / "c")
-    parser.add_argument("--seconds", type=float, default=30)
+    parser.add_argument("--seconds", type=float, default=20)
     words = parser.parse_args()
     # Its tests have folders of their own.
     words.program = words.program.resolve()
@@ -60,7 +70,7 @@ def main():
     if not (words.prefix / "lib" / "libnpss.a").exists() or not shutil.which("cc"):
         print("skipped: the registry: the library for C isn't built, or there is no C compiler")
         tally.finish()
-    if not (with_modules() and all(map(shutil.which, ("redis-server", "mypy", "chromium")))):
+    if not (with_modules(MODULES[:1]) and all(map(shutil.which, PROGRAMS)) and Path("/usr/lib/postgresql").exists()):
         install(PACKAGES)
     python = with_modules()
     if python is None:
@@ -80,9 +90,10 @@ def main():
             tally.check("the registry's types", typed.returncode == 0, typed.stdout)
         else:
             print("skipped: the registry's types: mypy is not here")
-        logs = ["sqlite", *(["redis"] if shutil.which("redis-server") and with_modules() else [])]
+        logs = kinds_here(python, environment)
+        print("".join(f"skipped: chaos over {log}: its server or its client is not here\n" for log in ("redis", "postgres", "etcd") if log not in logs), end="")
         for log in logs:
-            chaos = [python, ROOT / "tests" / "chaos.py", "--seconds", words.seconds / len(logs), "--log", log, words.program]
+            chaos = [python, ROOT / "tests" / "chaos.py", "--seconds", words.seconds, "--log", log, words.program]
             counted(tally, f"chaos over {log}", chaos, environment)
     tally.finish()
 

@@ -8,7 +8,8 @@ PAGE = FIXTURES.parent / "docs" / "MOVING.md"
 NAMES, COLLISIONS, NAMELESS = 100_000, 100, 10
 # Names of several scripts; each hundredth of the first ones stands there a second time, decomposed and in capitals.
 FILL = f"""
-INSERT INTO account (name) SELECT 'Jos\u00e9 ' || n || chr(1072 + n % 32) || chr(44032 + n % 11172) FROM generate_series(1, {NAMES - COLLISIONS - NAMELESS}) AS n;
+INSERT INTO account (name) SELECT 'Jos\u00e9 ' || n || chr(1072 + n % 32) || chr(44032 + n % 11172)
+    FROM generate_series(1, {NAMES - COLLISIONS - NAMELESS}) AS n;
 INSERT INTO account (name) SELECT normalize(upper(name), NFD) FROM account WHERE id % 100 = 0 AND id <= {100 * COLLISIONS};
 INSERT INTO account (name) SELECT 'a' || chr(917632 + n) FROM generate_series(0, {NAMELESS - 1}) AS n;
 ANALYZE account;

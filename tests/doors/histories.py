@@ -1,7 +1,8 @@
 #!/usr/bin/env python3
 """histories.py FORM SCHEDULE FILES..: runs a schedule by the module's Node objects, and prints the report of docs/FORMATS.md.
 
-What it prints has to be what `npss replay --form FORM SCHEDULE FILES..` prints. The module npss is on PYTHONPATH.
+What it prints has to be what `npss replay --form FORM SCHEDULE FILES..` prints. The module npss is on PYTHONPATH. Each event is
+the call that np_world/specs/Calls has for it, and a World keeps what a host keeps ('For a host' of docs/PROMISES.md).
 """
 
 import sys

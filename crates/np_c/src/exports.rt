@@ -1,5 +1,6 @@
 //! The functions that C calls. Each takes what its handle holds, and puts it back.
 ghost use Rattle.std.specs.Prelude.{◌≡◌, false, None, IfSome};
+ghost use Rattle.np_versions.specs.Conditions.{IsSound};
 ghost use Rattle.np_versions.specs.Counts.{assigned_count};
 ghost use Rattle.np_c.specs.Answers.{IsEquivalentAnswer, IsExtensionAnswer, IsFormAnswer, IsKeyAnswer, IsOpenAnswer, IsOwnFormAnswer, IsShareAnswer};
 ghost use Rattle.np_c.specs.Ascii.{IsAsciiAnswer};
@@ -219,12 +220,14 @@ pub extern "C" fn npss_extends(alloc: Global, older: &mut Handle, newer: &mut Ha
 pub extern "C" fn npss_count(alloc: Global, handle: &mut Handle) -> Answer
     ensures same { content_of handle.new ≡ content_of handle.old }
     ensures count { IfSome (version_of handle.old) (λ v. result ≡ with_length 0 (assigned_count v)) }
+    ensures sound { IfSome (version_of handle.old) IsSound }
     ensures closed { version_of handle.old ≡ None → result ≡ alone 5 }
 {
     match handle.take_table(alloc) {
         None => Answer::of(CLOSED),
         Some((shared, content)) => {
             let count = shared.table.version().count();
+            shared.table.meets_conditions();
             handle.put_table(content, shared);
             Answer {
                 length: u64::from(count),

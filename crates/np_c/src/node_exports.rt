@@ -1,5 +1,6 @@
 //! The calls of nodes that C makes. Each takes the node out of its handle, and puts it back.
 ghost use Rattle.std.specs.Prelude.{◌≡◌, false, Some, None, IfSome, length};
+ghost use Rattle.np_node.specs.Nodes.{IsNode};
 ghost use Rattle.np_versions.specs.Counts.{assigned_count};
 ghost use Rattle.np_c.specs.Contents.{HeldNode, Holds};
 ghost use Rattle.np_c.specs.NodeOpening.{IsNewAnswer, IsRestoreAnswer, IsUpgradeAnswer};
@@ -237,6 +238,7 @@ pub extern "C" fn npss_node_image(alloc: Global, node: &mut Handle, room: &mut [
 pub extern "C" fn npss_node_count(alloc: Global, node: &mut Handle) -> Answer
     ensures same { node_of node.new ≡ node_of node.old }
     ensures count { IfSome (node_of node.old) (λ kept. result ≡ told_count (length kept.entries)) }
+    ensures node { IfSome (node_of node.old) (λ kept. IsNode (state_in kept)) }
     ensures closed { node_of node.old ≡ None → IsClosedNode node.old node.new result }
 {
     match node.take_node(alloc) {

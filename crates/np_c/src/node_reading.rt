@@ -91,6 +91,7 @@ fn put_entry<T: NormTable>(node: &Node<'_, T>, index: u64, room: &mut [u8]) -> A
 pub fn count_in(alloc: Global, kept: &mut KeptNode) -> Answer
     ensures same { kept.new ≡ kept.old }
     ensures count { result ≡ told_count (length kept.old.entries) }
+    ensures node { IsNode (state_in kept.old) }
 {
     let entries = mem::replace(&mut kept.entries, no_entries(alloc, &*kept.shared.table));
     let node = Node::of_entries(&*kept.shared.table, kept.form, kept.room, entries);

@@ -1,4 +1,7 @@
+pub mod AuditLemmas
 pub mod BackwardLemmas
+pub mod BreakLemmas
+pub mod ChangeLemmas
 pub mod ConditionLemmas
 pub mod ExampleLemmas
 pub mod FineLemmas

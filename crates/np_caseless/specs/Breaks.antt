@@ -1,5 +1,5 @@
 -- What a later version with its foldings breaks of an earlier one: the six kinds of versions, and one more. The least of them counts.
-use Rattle.std.specs.Prelude.{◌≡◌, ◌≢◌, ℕ, ◌<◌, ◌≤◌, List, codes}
+use Rattle.std.specs.Prelude.{◌≢◌, ℕ, ◌<◌, ◌≤◌, List, codes}
 use Rattle.std.specs.List.{All, AllPairs, Contains}
 use Rattle.np_caseless.specs.declared.breaks.FoldedBreak.{FoldedBreak}
 use Rattle.np_caseless.specs.declared.breaks.FoldedBreakKind.{FoldedBreakKind}

@@ -9,6 +9,7 @@ mod first_faults;
 mod folded_again;
 mod folded_tables;
 mod folding;
+mod folding_changes;
 mod folding_faults;
 mod keys;
 pub mod laws;

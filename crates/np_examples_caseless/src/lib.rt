@@ -3,6 +3,14 @@
 #![tactic(auto)]
 
 #[cfg(test)]
+mod audit_rows;
+#[cfg(test)]
+mod audits;
+#[cfg(test)]
+mod condition_rows;
+#[cfg(test)]
+mod conditions;
+#[cfg(test)]
 mod edge_rows;
 #[cfg(test)]
 mod folding_files;

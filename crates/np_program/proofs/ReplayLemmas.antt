@@ -9,7 +9,7 @@ use Rattle.np_versions.specs.Versions.{VersionData}
 use Rattle.np_schedules.specs.Events.{ScheduleData}
 use Rattle.np_schedules.specs.ScheduleFiles.{SaysSchedule, TakesMemory}
 use Rattle.np_world.specs.ReportTexts.{report_lines, text_of_report}
-use Rattle.np_world.specs.Reports.{NodeAtEnd, ReportData, index_at, node_at, node_report, nodes_of, replies_of}
+use Rattle.np_world.specs.Reports.{ReportData, index_at, node_at, node_report, nodes_of, replies_of, PlacedNode}
 use Rattle.np_world.specs.Runs.{AreKeysUnder, HasOneRun, InTheRun, IsLast, setting_over, texts_in}
 use Rattle.np_world.specs.World.{MachineNode}
 use Rattle.np_code_points.specs.Watched.{device_of}
@@ -27,7 +27,7 @@ some_at (x ∷ xs) (suc k) lt = some_at xs k (omega arith)
 
 module _ {T : Type 0} (last : VersionData) (form : Form) where
   -- nodes that keep what the machine's keep, place by place
-  nodes_told : (ends : List (NodeAtEnd T)) (nodes : List MachineNode)
+  nodes_told : (ends : List (PlacedNode T)) (nodes : List MachineNode)
       → ((i : ℕ) → option_map (λ e. e.index) (slice_get ends i) ≡ option_map (λ n. n.index) (slice_get nodes i))
       → ((i : ℕ) → option_map (λ node. texts_in node.entries) (option_map (λ e. e.node) (slice_get ends i)) ≡ option_map (λ n. n.strings) (slice_get nodes i))
       → ((i : ℕ) → IfSome (option_map (λ e. e.node) (slice_get ends i)) (λ node. AreKeysUnder last form node.entries))

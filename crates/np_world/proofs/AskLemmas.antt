@@ -3,8 +3,6 @@ use Rattle.std.proofs.Common.{◌≡◌, ℕ, ◌-◌, ◌<◌, ◌≤◌, ◌�
 use Rattle.std.proofs.lemmas.List.{get_or-map, length-map}
 use Rattle.std.proofs.lemmas.Option.{slice_get_within}
 use Rattle.std.specs.Prelude.{chars, IsUtf8}
-use Rattle.std.specs.declared.vec.Vec.{Vec}
-use Rattle.std.specs.declared.alloc.Global.{Global}
 use Rattle.np_chain.proofs.ChainLemmas.{StandsAt-from}
 use Rattle.np_chain.specs.Chain.{Extends}
 use Rattle.np_chain.specs.Laws.{Stability}
@@ -16,11 +14,12 @@ use Rattle.np_node.specs.Nodes.{IsKept}
 use Rattle.np_node.specs.Strings.{Entry, IsEntry}
 use Rattle.np_versions.specs.Conditions.{IsSound}
 use Rattle.np_versions.specs.Versions.{VersionData}
+use Rattle.np_world.specs.Reports.{PlacedNode}
 use Rattle.np_world.specs.World.{MachineNode, Scene, Asks, If, OnlyReplies}
-use Rattle.np_world.specs.declared.replay_nodes.ReplayNode.{ReplayNode}
+use Rattle.np_world.specs.Moments.{Rules, AreRules}
 use Rattle.np_world.specs.declared.replies.Reply.{Reply}
 use Rattle.np_world.specs.declared.replies.Reply.TheVariants.{NotKept, Equal, Different}
-use Rattle.np_world.specs.inside.Mirrors.{Rules, setting_of, Mirrors, AreRules, NodeSteps}
+use Rattle.np_world.specs.inside.Mirrors.{Mirrors, NodeSteps, setting_of}
 use Rattle.np_world.proofs.NodeStepLemmas.{Deed, scene, bytes_of, has_text, table_here, says}
 
 -- ---- equivalence under two versions
@@ -40,7 +39,7 @@ same_under stability forms v w form sound_v sound_w extends a b is_a is_b =
     let late = forms w form (chars a.string) (chars b.string) (chars a.key) (chars b.key) sound_w late_a late_b in
     (λ h. late.0 (early.1 h), λ h. early.0 (late.1 h))
 
-module _ {T : Type 0} (model : T → VersionData) (rules : Rules T) (old : ReplayNode T) (twin : MachineNode) (last : VersionData) (m : Mirrors model rules old twin) where
+module _ {T : Type 0} (model : T → VersionData) (rules : Rules T) (old : PlacedNode T) (twin : MachineNode) (last : VersionData) (m : Mirrors model rules old twin) where
   -- an entry of a kept string
   entry_of : (bytes : List ℕ) → IsKept old.node.entries bytes → HasEntry (model old.node.table) old.node.form bytes
   entry_of bytes kept =
@@ -78,7 +77,7 @@ if_only : (P : Type 0) (first second reply : Reply) (before : Scene) → If P (r
 if_only P first second reply before (inl (is, same)) = inl (is, (same, refl))
 if_only P first second reply before (inr (not, same)) = inr (not, (same, refl))
 
-module _ {T : Type 0} (model : T → VersionData) (rules : Rules T) (old new : ReplayNode T) (left right : List ℕ) (told : List (Vec ℕ Global)) (same : new ≡ old) where
+module _ {T : Type 0} (model : T → VersionData) (rules : Rules T) (old new : PlacedNode T) (left right : List ℕ) (told : List (List ℕ)) (same : new ≡ old) where
   abbrev pub deed_ask : Deed
   deed_ask version last = Asks (setting_of model rules) last (chars left) (chars right)
 

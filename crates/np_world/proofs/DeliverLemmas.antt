@@ -2,19 +2,18 @@
 use Rattle.std.proofs.Common.{◌≡◌, ℕ, ◌≤◌, List, length, slice_get, Some, refl, sym, subst, arith, inl, inr}
 use Rattle.std.proofs.lemmas.Option.{slice_get_past}
 use Rattle.std.specs.Prelude.{chars}
-use Rattle.std.specs.declared.vec.Vec.{Vec}
-use Rattle.std.specs.declared.alloc.Global.{Global}
 use Rattle.np_chain.specs.Chain.{IsSoundChain}
 use Rattle.np_forms.specs.Assigned.{IsAssigned}
 use Rattle.np_node.specs.Laws.{Exchange, HasOneFault, SpellsOne}
 use Rattle.np_node.specs.Messages.{Message, IsMessage, IsMessageFault}
 use Rattle.np_node.specs.Strings.{Entry, IsEntry, IsKey}
 use Rattle.np_versions.specs.Versions.{VersionData}
+use Rattle.np_world.specs.Reports.{PlacedNode}
 use Rattle.np_world.specs.World.{Setting, Scene, If, NamesUnassigned, Comes, keeping, Finds, Receives, Delivers, Forges}
-use Rattle.np_world.specs.declared.replay_nodes.ReplayNode.{ReplayNode}
+use Rattle.np_world.specs.Moments.{Rules}
 use Rattle.np_world.specs.declared.replies.Reply.{Reply}
 use Rattle.np_world.specs.declared.replies.Reply.TheVariants.{Kept, NoMessage, OtherForm, KeyDiffers}
-use Rattle.np_world.specs.inside.Mirrors.{Rules, setting_of, IsMessageOf, NodeSteps}
+use Rattle.np_world.specs.inside.Mirrors.{IsMessageOf, NodeSteps, setting_of}
 use Rattle.np_world.proofs.ForgeLemmas.{one_entry}
 use Rattle.np_world.proofs.SentLemmas.{length-messages, match-none, match-some, message_at}
 use Rattle.np_world.proofs.StringLemmas.{assigned_stable}
@@ -60,7 +59,7 @@ module _ (setting : Setting) (v : VersionData) (place : ℕ) (chain : IsSoundCha
     comes_sent (inr good) =
         subst (λ s. Comes setting v s Kept (keeping s before) before reply after) (sym of.text) (comes_told good.0 (one_entry one bytes told good.0 of.message good.1) good.2)
 
-module _ {T : Type 0} (model : T → VersionData) (rules : Rules T) (old new : ReplayNode T) (number : ℕ) (told : List (Vec ℕ Global)) where
+module _ {T : Type 0} (model : T → VersionData) (rules : Rules T) (old new : PlacedNode T) (number : ℕ) (told : List (List ℕ)) where
   abbrev pub deed_deliver : Deed
   deed_deliver version last = Delivers (setting_of model rules) version number
 
@@ -70,8 +69,8 @@ module _ {T : Type 0} (model : T → VersionData) (rules : Rules T) (old new : R
       (λ node strings last are m sent end.
       match-none strings number (slice_get_past strings number (omega (arith, past, length-messages (setting_of model rules) told strings sent))) _ _ (refl, refl))
 
-  pub delivers-sent : (b : Vec ℕ Global) (reply : Reply) → SpellsOne IsMessage → HasOneFault IsMessage IsMessageFault → Exchange → slice_get told number ≡ Some b
-      → NodeSteps model rules (λ version last. Forges (setting_of model rules) version b.items) old told reply new told → NodeSteps model rules deed_deliver old told reply new told
+  pub delivers-sent : (b : List ℕ) (reply : Reply) → SpellsOne IsMessage → HasOneFault IsMessage IsMessageFault → Exchange → slice_get told number ≡ Some b
+      → NodeSteps model rules (λ version last. Forges (setting_of model rules) version b) old told reply new told → NodeSteps model rules deed_deliver old told reply new told
   delivers-sent b reply one none exchange here node_steps = λ node strings version last are m sent present end.
       let node_step = node_steps node strings version last are m sent present end in
       let has = message_at (setting_of model rules) told strings number b sent here in
@@ -81,7 +80,7 @@ module _ {T : Type 0} (model : T → VersionData) (rules : Rules T) (old new : R
         next = node_step.next;
         more = node_step.more;
         does = match-some strings number has.string has.here _ (λ s. Comes (setting_of model rules) version s Kept (keeping s before) before reply after)
-            (comes_sent (setting_of model rules) version node.index are.chain present exchange before after reply one none b.items has.string has.of node_step.does);
+            (comes_sent (setting_of model rules) version node.index are.chain present exchange before after reply one none b has.string has.of node_step.does);
         mirrors = node_step.mirrors;
         messages = node_step.messages;
       }

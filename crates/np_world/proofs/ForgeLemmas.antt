@@ -1,9 +1,6 @@
 -- What a node answers to bytes that reach it as a message is what the machine does.
 use Rattle.std.proofs.Common.{◌≡◌, ◌≢◌, ℕ, ◌<◌, ◌≤◌, List, [], length, refl, sym, ap, subst, ◌∙◌, arith, inl, inr, Result, Ok, Err, append-nil}
 use Rattle.std.specs.Prelude.{chars, IsUtf8, IfOk}
-use Rattle.std.specs.declared.vec.Vec.{Vec}
-use Rattle.std.specs.declared.alloc.Global.{Global}
-use Rattle.np_code_points.specs.declared.Memory.{Memory}
 use Rattle.np_forms.specs.Assigned.{IsAssigned}
 use Rattle.np_node.specs.Laws.{HasOneFault, SpellsOne}
 use Rattle.np_node.specs.Messages.{Message, IsMessage, IsMessageFault}
@@ -15,15 +12,16 @@ use Rattle.np_node.specs.declared.faults.NodeFault.TheVariants as fault
 use Rattle.np_node.specs.declared.taking.Taken.{Taken}
 use Rattle.np_node.specs.declared.taking.Taken.TheVariants as taken
 use Rattle.np_versions.specs.Versions.{VersionData}
+use Rattle.np_world.specs.Reports.{PlacedNode}
 use Rattle.np_world.specs.World.{Setting, MachineNode, Scene, If, NamesNotUtf8, keeping, Finds, Receives, Forges}
-use Rattle.np_world.specs.declared.replay_nodes.ReplayNode.{ReplayNode}
+use Rattle.np_world.specs.Moments.{Rules}
 use Rattle.np_world.specs.declared.replies.Reply.{Reply}
 use Rattle.np_world.specs.declared.replies.Reply.TheVariants.{Kept, Known, Full, TooLong, Unassigned, Malformed, OtherForm, NotUtf8, KeyDiffers}
-use Rattle.np_world.specs.inside.Mirrors.{Rules, setting_of, Mirrors, NodeSteps}
-use Rattle.np_world.specs.inside.Told.{refusal_of}
+use Rattle.np_world.specs.inside.Mirrors.{Mirrors, NodeSteps, setting_of}
+use Rattle.np_world.specs.Told.{refusal_of, reply_to}
 use Rattle.np_world.proofs.CaseLemmas.{Same, both, one_finding, one_if, one_name, same_as}
 use Rattle.np_world.proofs.StringLemmas.{not_assigned, not_utf8}
-use Rattle.np_world.proofs.NodeStepLemmas.{Deed, scene, finds-known, finds-full, finds-place, keeps_more, same_replay_node, node_stepped, says}
+use Rattle.np_world.proofs.NodeStepLemmas.{Deed, scene, finds-known, finds-full, finds-place, keeps_more, same_placed, node_stepped, says}
 
 -- bytes tell one string and key at most
 pub one_entry : SpellsOne IsMessage → (bytes : List ℕ) (m n : Message) → IsMessage bytes m → IsMessage bytes n → m ≡ n
@@ -32,13 +30,7 @@ one_entry one bytes m n first second = (one bytes [] m n first (subst (λ l. IsM
 not_long : (n : ℕ) → n ≤ 65536 → ¬ (65536 < n)
 not_long n short long = omega (arith, short, long)
 
--- the reply to each answer
-abbrev pub reply_to : Result Taken NodeFault → Result Reply Memory
-reply_to (Ok taken.Known) = Ok Known
-reply_to (Ok taken.Kept) = Ok Kept
-reply_to (Err f) = refusal_of f
-
-module _ {T : Type 0} (model : T → VersionData) (rules : Rules T) (old new : ReplayNode T) (bytes : List ℕ) where
+module _ {T : Type 0} (model : T → VersionData) (rules : Rules T) (old new : PlacedNode T) (bytes : List ℕ) where
   abbrev pub deed_forge : Deed
   deed_forge version last = Forges (setting_of model rules) version bytes
 
@@ -61,7 +53,7 @@ module _ {T : Type 0} (model : T → VersionData) (rules : Rules T) (old new : R
       ))
 
   -- the refusals, in the order of the faults
-  forges-refused : (told : List (Vec ℕ Global)) (f : NodeFault) → AnswersTake (state_of model old.node) bytes (Err f) → new ≡ old → IfOk (refusal_of f) (λ reply. NodeSteps model rules deed_forge old told reply new told)
+  forges-refused : (told : List (List ℕ)) (f : NodeFault) → AnswersTake (state_of model old.node) bytes (Err f) → new ≡ old → IfOk (refusal_of f) (λ reply. NodeSteps model rules deed_forge old told reply new told)
   forges-refused told (fault.Malformed at) answers same =
       says model rules deed_forge old new told (Malformed at) same (λ node strings last are m sent end. inl (at, answers, (refl, refl)))
   forges-refused told fault.OtherForm answers same =
@@ -102,13 +94,13 @@ module _ {T : Type 0} (model : T → VersionData) (rules : Rules T) (old new : R
   forges-refused told fault.Memory answers same = tt
   forges-refused told (fault.OlderTables need have) answers same = absurd answers
 
-  forges-known : (told : List (Vec ℕ Global)) → AnswersTake (state_of model old.node) bytes (Ok taken.Known) → new ≡ old → NodeSteps model rules deed_forge old told Known new told
+  forges-known : (told : List (List ℕ)) → AnswersTake (state_of model old.node) bytes (Ok taken.Known) → new ≡ old → NodeSteps model rules deed_forge old told Known new told
   forges-known told answers same =
       let e = answers.entry in
       says model rules deed_forge old new told Known same
       (λ node strings last are m sent end. finds node m e answers.spelled (scene node strings) (scene node strings) Known answers.has.0 (finds-known model rules old node m strings e.string _ _ answers.has.1))
 
-  forges-kept : (told : List (Vec ℕ Global)) → SpellsOne IsMessage → AnswersTake (state_of model old.node) bytes (Ok taken.Kept) → LeavesTaken old.node new.node bytes (Ok taken.Kept)
+  forges-kept : (told : List (List ℕ)) → SpellsOne IsMessage → AnswersTake (state_of model old.node) bytes (Ok taken.Kept) → LeavesTaken old.node new.node bytes (Ok taken.Kept)
       → new.index ≡ old.index → new.image ≡ old.image → NodeSteps model rules deed_forge old told Kept new told
   forges-kept told one answers leaves index image =
       let e = answers.entry in
@@ -125,17 +117,11 @@ module _ {T : Type 0} (model : T → VersionData) (rules : Rules T) (old new : R
         messages = sent;
       })
 
-  forges-by : (told : List (Vec ℕ Global)) → SpellsOne IsMessage → new.index ≡ old.index → new.image ≡ old.image → (r : Result Taken NodeFault)
-      → AnswersTake (state_of model old.node) bytes r → LeavesTaken old.node new.node bytes r → IfOk (reply_to r) (λ reply. NodeSteps model rules deed_forge old told reply new told)
-  forges-by told one index image (Ok taken.Known) answers leaves = forges-known told answers (same_replay_node new old index leaves image)
-  forges-by told one index image (Ok taken.Kept) answers leaves = forges-kept told one answers leaves index image
-  forges-by told one index image (Err f) answers leaves = forges-refused told f answers (same_replay_node new old index leaves image)
-
-  -- whatever the node answers
-  pub forges : (told : List (Vec ℕ Global)) → SpellsOne IsMessage → new.index ≡ old.index → new.image ≡ old.image → {r x : Result Taken NodeFault} {back : Result Reply Memory} → r ≡ x → back ≡ reply_to x
-      → AnswersTake (state_of model old.node) bytes r → LeavesTaken old.node new.node bytes r → IfOk back (λ reply. NodeSteps model rules deed_forge old told reply new told)
-  forges told one index image {r} {x} {back} same replies answers leaves =
-      subst (λ b. IfOk b (λ reply. NodeSteps model rules deed_forge old told reply new told)) (sym (replies ∙ ap reply_to (sym same))) (forges-by told one index image r answers leaves)
+  pub forges : (told : List (List ℕ)) → SpellsOne IsMessage → new.index ≡ old.index → new.image ≡ old.image → (r : Result Taken NodeFault)
+      → AnswersTake (state_of model old.node) bytes r → LeavesTaken old.node new.node bytes r → IfOk (reply_to Kept r) (λ reply. NodeSteps model rules deed_forge old told reply new told)
+  forges told one index image (Ok taken.Known) answers leaves = forges-known told answers (same_placed new old index leaves image)
+  forges told one index image (Ok taken.Kept) answers leaves = forges-kept told one answers leaves index image
+  forges told one index image (Err f) answers leaves = forges-refused told f answers (same_placed new old index leaves image)
 
 -- ---- one answer
 

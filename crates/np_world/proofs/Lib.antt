@@ -1,11 +1,16 @@
 pub mod AcceptLemmas
 pub mod AskLemmas
+pub mod CallLemmas
 pub mod CaseLemmas
 pub mod DeliverLemmas
+pub mod DoneLemmas
 pub mod ForgeLemmas
 pub mod ForgettingLemmas
+pub mod HistoryLemmas
 pub mod ImageLemmas
 pub mod MachineLemmas
+pub mod MessageLemmas
+pub mod PlayLemmas
 pub mod ReportLemmas
 pub mod ReportTextLemmas
 pub mod RestartLemmas

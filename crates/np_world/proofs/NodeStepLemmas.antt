@@ -4,26 +4,25 @@ use Rattle.std.proofs.lemmas.Option.{slice_get-map}
 use Rattle.std.specs.List.{Contains}
 use Rattle.std.specs.Option.{option_map}
 use Rattle.std.specs.Prelude.{chars, IsUtf8}
-use Rattle.std.specs.declared.vec.Vec.{Vec}
-use Rattle.std.specs.declared.alloc.Global.{Global}
 use Rattle.np_node.specs.Nodes.{NodeState, state_of, IsKept, HasPlace, HasNoPlace, with_entry}
 use Rattle.np_node.specs.Strings.{Entry, IsKey}
 use Rattle.np_versions.specs.Versions.{VersionData}
+use Rattle.np_world.specs.Reports.{PlacedNode}
 use Rattle.np_world.specs.World.{MachineNode, Scene, with_string, Finds}
-use Rattle.np_world.specs.declared.replay_nodes.ReplayNode.{ReplayNode}
+use Rattle.np_world.specs.Moments.{Rules, AreRules}
 use Rattle.np_world.specs.declared.replies.Reply.{Reply}
 use Rattle.np_world.specs.declared.replies.Reply.TheVariants.{Known, Full}
-use Rattle.np_world.specs.inside.Mirrors.{Rules, setting_of, Mirrors, AreMessages, AreRules, IsNodeStep, NodeSteps}
+use Rattle.np_world.specs.inside.Mirrors.{Mirrors, AreMessages, IsNodeStep, NodeSteps, setting_of}
 use Rattle.np_world.proofs.StringLemmas.{length-texts, texts-push, text_is_kept, bytes_are_kept, IsNode-with_entry}
 
 -- ---- nodes with the same fields
 
-abbrev replay_node_of : {T : Type 0} → ℕ → NodeState T → Option (Vec ℕ Global) → ReplayNode T
-replay_node_of index node image = record { index = index; node = node; image = image }
+abbrev placed_node : {T : Type 0} → ℕ → NodeState T → Option (List ℕ) → PlacedNode T
+placed_node index node image = record { index = index; node = node; image = image }
 
-pub same_replay_node : {T : Type 0} (new old : ReplayNode T) → new.index ≡ old.index → new.node ≡ old.node → new.image ≡ old.image → new ≡ old
-same_replay_node new old i n m =
-    ap (λ x. replay_node_of x new.node new.image) i ∙ ap (λ x. replay_node_of old.index x new.image) n ∙ ap (λ x. replay_node_of old.index old.node x) m
+pub same_placed : {T : Type 0} (new old : PlacedNode T) → new.index ≡ old.index → new.node ≡ old.node → new.image ≡ old.image → new ≡ old
+same_placed new old i n m =
+    ap (λ x. placed_node x new.node new.image) i ∙ ap (λ x. placed_node old.index x new.image) n ∙ ap (λ x. placed_node old.index old.node x) m
 
 -- ---- what a step of a node meets
 
@@ -33,7 +32,7 @@ scene node strings = record { node = node; sent = strings }
 abbrev pub Deed : Type 1
 Deed = VersionData → VersionData → Scene → Reply → Scene → Type 0
 
-module _ {T : Type 0} (model : T → VersionData) (rules : Rules T) (old : ReplayNode T) (twin : MachineNode) (m : Mirrors model rules old twin) where
+module _ {T : Type 0} (model : T → VersionData) (rules : Rules T) (old : PlacedNode T) (twin : MachineNode) (m : Mirrors model rules old twin) where
   -- the node's version stands in the row
   pub table_here : slice_get (map model rules.tables) old.index ≡ Some (model old.node.table)
   table_here = slice_get-map model rules.tables old.index ∙ ap (option_map model) m.table
@@ -54,10 +53,10 @@ module _ {T : Type 0} (model : T → VersionData) (rules : Rules T) (old : Repla
   count_is = ap length m.strings ∙ length-texts old.node.entries
 
   -- a node that keeps one entry more
-  pub keeps_more : (new : ReplayNode T) (e : Entry) → new.index ≡ old.index → new.image ≡ old.image → new.node ≡ with_entry old.node e → HasPlace (state_of model old.node) e.string
+  pub keeps_more : (new : PlacedNode T) (e : Entry) → new.index ≡ old.index → new.image ≡ old.image → new.node ≡ with_entry old.node e → HasPlace (state_of model old.node) e.string
       → IsKey (model old.node.table) old.node.form e.string e.key → Mirrors model rules new (with_string twin (chars e.string))
   keeps_more new e index image node place key =
-      let same : new ≡ record old { node = with_entry old.node e } = same_replay_node new (record old { node = with_entry old.node e }) index node image in
+      let same : new ≡ record old { node = with_entry old.node e } = same_placed new (record old { node = with_entry old.node e }) index node image in
       subst (λ w. Mirrors model rules w (with_string twin (chars e.string))) (sym same)
       (record {
         index = m.index;
@@ -85,7 +84,7 @@ module _ {T : Type 0} (model : T → VersionData) (rules : Rules T) (old : Repla
 
 -- ---- steps of a node
 
-module _ {T : Type 0} (model : T → VersionData) (rules : Rules T) (deed : Deed) (old new : ReplayNode T) (told more : List (Vec ℕ Global)) (reply : Reply) where
+module _ {T : Type 0} (model : T → VersionData) (rules : Rules T) (deed : Deed) (old new : PlacedNode T) (told more : List (List ℕ)) (reply : Reply) where
   -- a step of a node under the version of the node's table is one under that of the machine's node
   pub node_stepped : ((node : MachineNode) (strings : List (List ℕ)) (last : VersionData) → AreRules model rules → Mirrors model rules old node → AreMessages (setting_of model rules) told strings
       → slice_get (map model rules.tables) (length rules.tables - 1) ≡ Some last
@@ -94,13 +93,13 @@ module _ {T : Type 0} (model : T → VersionData) (rules : Rules T) (deed : Deed
       subst (λ v. IsNodeStep model rules deed node strings v last reply new more) (version_is model rules old node m version here) (node_step node strings last are m sent end)
 
 -- the machine's node goes on as the node does
-pub node_steps_to : {T : Type 0} (model : T → VersionData) (rules : Rules T) (deed : Deed) (node next : MachineNode) (strings : List (List ℕ)) (version last : VersionData) (reply : Reply) (new moved : ReplayNode T) (told : List (Vec ℕ Global)) → new ≡ moved
+pub node_steps_to : {T : Type 0} (model : T → VersionData) (rules : Rules T) (deed : Deed) (node next : MachineNode) (strings : List (List ℕ)) (version last : VersionData) (reply : Reply) (new moved : PlacedNode T) (told : List (List ℕ)) → new ≡ moved
     → deed version last (scene node strings) reply (scene next strings) → Mirrors model rules moved next → AreMessages (setting_of model rules) told strings → IsNodeStep model rules deed node strings version last reply new told
 node_steps_to model rules deed node next strings version last reply new moved told same does mirrors messages =
     record { next = next; more = strings; does = does; mirrors = subst (λ w. Mirrors model rules w next) (sym same) mirrors; messages = messages }
 
 -- nothing but the reply
-pub says : {T : Type 0} (model : T → VersionData) (rules : Rules T) (deed : Deed) (old new : ReplayNode T) (told : List (Vec ℕ Global)) (reply : Reply) → new ≡ old
+pub says : {T : Type 0} (model : T → VersionData) (rules : Rules T) (deed : Deed) (old new : PlacedNode T) (told : List (List ℕ)) (reply : Reply) → new ≡ old
     → ((node : MachineNode) (strings : List (List ℕ)) (last : VersionData) → AreRules model rules → Mirrors model rules old node → AreMessages (setting_of model rules) told strings
     → slice_get (map model rules.tables) (length rules.tables - 1) ≡ Some last
     → deed (model old.node.table) last (scene node strings) reply (scene node strings)) → NodeSteps model rules deed old told reply new told

@@ -4,8 +4,6 @@ use Rattle.std.proofs.lemmas.Bool.{cases_lt}
 use Rattle.std.proofs.lemmas.Option.{slice_get-map}
 use Rattle.std.specs.Option.{option_map}
 use Rattle.std.specs.Prelude.{IfOk}
-use Rattle.std.specs.declared.vec.Vec.{Vec}
-use Rattle.std.specs.declared.alloc.Global.{Global}
 use Rattle.np_chain.specs.Chain.{StandsAt}
 use Rattle.np_code_points.specs.declared.forms.Form.{Form}
 use Rattle.np_node.specs.Images.{Image, Needs, IsImage, IsImageFault}
@@ -17,13 +15,14 @@ use Rattle.np_node.specs.declared.faults.NodeFault.{NodeFault}
 use Rattle.np_node.specs.declared.faults.NodeFault.TheVariants as fault
 use Rattle.np_versions.specs.Counts.{assigned_count}
 use Rattle.np_versions.specs.Versions.{VersionData}
+use Rattle.np_world.specs.Reports.{PlacedNode}
 use Rattle.np_world.specs.World.{Setting, MachineNode, Scene, HasOlderTables, Restarts, RestartsUnder}
-use Rattle.np_world.specs.declared.replay_nodes.ReplayNode.{ReplayNode}
+use Rattle.np_world.specs.Moments.{Rules, AreRules}
 use Rattle.np_world.specs.declared.replies.Reply.{Reply}
 use Rattle.np_world.specs.declared.replies.Reply.TheVariants.{Restarted, OlderTables}
-use Rattle.np_world.specs.inside.Mirrors.{texts_of, Rules, setting_of, saved_state, HasImage, HasSaved, Mirrors, AreRules, IsReady, NodeSteps}
+use Rattle.np_world.specs.inside.Mirrors.{texts_of, saved_state, HasImage, HasSaved, Mirrors, NodeSteps, setting_of}
 use Rattle.np_world.specs.inside.Restarting.{BeginsAgain, RefusesToBegin}
-use Rattle.np_world.specs.inside.Told.{refusal_of}
+use Rattle.np_world.specs.Told.{refusal_of}
 use Rattle.np_world.proofs.CaseLemmas.{both, one_if, same_as, Same}
 use Rattle.np_world.proofs.NodeStepLemmas.{table_here, says, node_stepped, node_steps_to}
 
@@ -65,7 +64,7 @@ not_fewer v needs count is young =
     ⊎_elim (λ lt. absurd (young (subst (IsOlder v) (sym is) lt))) (λ ge. ge) (cases_lt (assigned_count v) count)
 
 -- a node whose last save needs no more than a version assigns doesn't have older tables under it
-not_older : (setting : Setting) (twin : MachineNode) (version : VersionData) (place need have : ℕ) (image : Option (Vec ℕ Global)) → slice_get setting.versions place ≡ Some version
+not_older : (setting : Setting) (twin : MachineNode) (version : VersionData) (place need have : ℕ) (image : Option (List ℕ)) → slice_get setting.versions place ≡ Some version
     → HasSaved setting version image twin.saved twin.saved_at → HasOlderTables setting twin place need have → ⊥
 not_older setting twin version place need have None here has older =
     let none : None ≡ Some older.at = sym has.1 ∙ older.saved in absurd (cc)
@@ -82,17 +81,17 @@ not_older setting twin version place need have (Some bytes) here has older =
     let fewer = older.fewer in
     omega (arith, needed, there, few, fewer)
 
-module _ {T : Type 0} (model : T → VersionData) (rules : Rules T) (replay_node : ReplayNode T) (place : ℕ) (t : T) (here : slice_get rules.tables place ≡ Some t) (are : AreRules model rules) where
+module _ {T : Type 0} (model : T → VersionData) (rules : Rules T) (placed : PlacedNode T) (place : ℕ) (t : T) (here : slice_get rules.tables place ≡ Some t) (are : AreRules model rules) where
   -- the version at the place
   version_here : slice_get (map model rules.tables) place ≡ Some (model t)
   version_here = slice_get-map model rules.tables place ∙ ap (option_map model) here
 
   -- ---- nothing was saved
 
-  pub begins-empty : (node : NodeState T) → StandsAt (map model rules.tables) place (model t) → replay_node.image ≡ None → node ≡ make_node t rules.form rules.room [] → BeginsAgain model rules replay_node place node
+  pub begins-empty : (node : NodeState T) → StandsAt (map model rules.tables) place (model t) → placed.image ≡ None → node ≡ make_node t rules.form rules.room [] → BeginsAgain model rules placed place node
   begins-empty node stands none is = λ twin m.
-      let has = subst (λ i. HasSaved (setting_of model rules) (model replay_node.node.table) i twin.saved twin.saved_at) none m.saved in
-      subst (λ n. Mirrors model rules (record { index = place; node = n; image = replay_node.image }) (record twin { index = place; strings = twin.saved })) (sym is)
+      let has = subst (λ i. HasSaved (setting_of model rules) (model placed.node.table) i twin.saved twin.saved_at) none m.saved in
+      subst (λ n. Mirrors model rules (record { index = place; node = n; image = placed.image }) (record twin { index = place; strings = twin.saved })) (sym is)
       (record {
         index = refl;
         table = here;
@@ -105,15 +104,15 @@ module _ {T : Type 0} (model : T → VersionData) (rules : Rules T) (replay_node
 
   -- ---- there is an image
 
-  module _ (saved : Saved) (one : SpellsOne IsImage) (bytes : Vec ℕ Global) (some : replay_node.image ≡ Some bytes) where
-    has_image : (twin : MachineNode) → Mirrors model rules replay_node twin → HasImage (setting_of model rules) (model replay_node.node.table) bytes.items twin.saved twin.saved_at
-    has_image twin m = subst (λ i. HasSaved (setting_of model rules) (model replay_node.node.table) i twin.saved twin.saved_at) some m.saved
+  module _ (saved : Saved) (one : SpellsOne IsImage) (bytes : List ℕ) (some : placed.image ≡ Some bytes) where
+    has_image : (twin : MachineNode) → Mirrors model rules placed twin → HasImage (setting_of model rules) (model placed.node.table) bytes twin.saved twin.saved_at
+    has_image twin m = subst (λ i. HasSaved (setting_of model rules) (model placed.node.table) i twin.saved twin.saved_at) some m.saved
 
-    module _ (twin : MachineNode) (m : Mirrors model rules replay_node twin) where
+    module _ (twin : MachineNode) (m : Mirrors model rules placed twin) where
       in_saver : IsIn (map model rules.tables) (has_image twin m).at (has_image twin m).saver
       in_saver = record { chain = are.chain; here = (has_image twin m).saver_is }
 
-      spelled : IsImage bytes.items (with_needs (Some (assigned_count (has_image twin m).saver)) rules.form (has_image twin m).entries)
+      spelled : IsImage bytes (with_needs (Some (assigned_count (has_image twin m).saver)) rules.form (has_image twin m).entries)
       spelled =
           let as_saved = saved (map model rules.tables) (has_image twin m).at (has_image twin m).at (has_image twin m).saver
           (saved_state (setting_of model rules) (has_image twin m).saver (has_image twin m).entries) in_saver in_saver (omega arith) (has_image twin m).node in
@@ -121,19 +120,19 @@ module _ {T : Type 0} (model : T → VersionData) (rules : Rules T) (replay_node
           (as_saved.spelled (Some (assigned_count (has_image twin m).saver)) refl)
 
       -- whatever else the bytes spell is that image
-      same_image : (other : Image) → IsImage bytes.items other → with_needs (Some (assigned_count (has_image twin m).saver)) rules.form (has_image twin m).entries ≡ other
+      same_image : (other : Image) → IsImage bytes other → with_needs (Some (assigned_count (has_image twin m).saver)) rules.form (has_image twin m).entries ≡ other
       same_image other is =
-          (one bytes.items [] (with_needs (Some (assigned_count (has_image twin m).saver)) rules.form (has_image twin m).entries) other spelled (subst (λ l. IsImage l other) (sym (append-nil bytes.items)) is)).0
+          (one bytes [] (with_needs (Some (assigned_count (has_image twin m).saver)) rules.form (has_image twin m).entries) other spelled (subst (λ l. IsImage l other) (sym (append-nil bytes)) is)).0
 
-      needs_is : (needs : Needs) (entries : List Entry) → IsImage bytes.items (with_needs needs rules.form entries) → needs ≡ Some (assigned_count (has_image twin m).saver)
+      needs_is : (needs : Needs) (entries : List Entry) → IsImage bytes (with_needs needs rules.form entries) → needs ≡ Some (assigned_count (has_image twin m).saver)
       needs_is needs entries is = sym (ap (λ (x : Image). x.needs) (same_image (with_needs needs rules.form entries) is))
 
-    pub begins-saved : (node : NodeState T) → StandsAt (map model rules.tables) place (model t) → IsRestored model t rules.form rules.room bytes.items node → BeginsAgain model rules replay_node place node
+    pub begins-saved : (node : NodeState T) → StandsAt (map model rules.tables) place (model t) → IsRestored model t rules.form rules.room bytes node → BeginsAgain model rules placed place node
     begins-saved node stands is = λ twin m.
         let has = has_image twin m in
         let entries : has.entries ≡ node.entries = ap (λ (x : Image). x.entries) (same_image twin m (with_needs is.needs rules.form node.entries) is.image) in
         let enough = not_fewer (model t) is.needs (assigned_count has.saver) (needs_is twin m is.needs node.entries is.image) is.has_room.young in
-        subst (λ n. Mirrors model rules (record { index = place; node = n; image = replay_node.image }) (record twin { index = place; strings = twin.saved })) (sym (same_node node t rules.form rules.room is.table_is is.form_is is.room_is))
+        subst (λ n. Mirrors model rules (record { index = place; node = n; image = placed.image }) (record twin { index = place; strings = twin.saved })) (sym (same_node node t rules.form rules.room is.table_is is.form_is is.room_is))
         (record {
           index = refl;
           table = here;
@@ -157,9 +156,9 @@ module _ {T : Type 0} (model : T → VersionData) (rules : Rules T) (replay_node
 
     -- ---- refusals
 
-    module _ (twin : MachineNode) (m : Mirrors model rules replay_node twin) (unlike : HasOneFault IsImage IsImageFault) where
+    module _ (twin : MachineNode) (m : Mirrors model rules placed twin) (unlike : HasOneFault IsImage IsImageFault) where
       -- the tables are older
-      older_refuses : (entry : Option ℕ) (f : NodeFault) → assigned_count (model t) < assigned_count (has_image twin m).saver → IsRestoreFault (model t) rules.form rules.room bytes.items entry f → RefusesToBegin model rules replay_node place f
+      older_refuses : (entry : Option ℕ) (f : NodeFault) → assigned_count (model t) < assigned_count (has_image twin m).saver → IsRestoreFault (model t) rules.form rules.room bytes entry f → RefusesToBegin model rules placed place f
       older_refuses None (fault.OlderTables need have) lt h = λ other n.
           let has = has_image other n in
           let same : Some need ≡ Some (assigned_count has.saver) = sym h.has.is ∙ needs_is other n h.needs h.entries h.spelled in
@@ -175,7 +174,7 @@ module _ {T : Type 0} (model : T → VersionData) (rules : Rules T) (replay_node
             fewer = h.has.fewer;
           }
       older_refuses None fault.Memory lt h = tt
-      older_refuses None (fault.Malformed at) lt h = (unlike bytes.items at h).0 _ (spelled twin m)
+      older_refuses None (fault.Malformed at) lt h = (unlike bytes at h).0 _ (spelled twin m)
       older_refuses None fault.OtherForm lt h = h.other (sym (ap (λ (x : Image). x.form) (same_image twin m h.image h.spelled)))
       older_refuses None fault.TooLong lt h = h
       older_refuses None (fault.NotUtf8 at) lt h = h
@@ -189,42 +188,42 @@ module _ {T : Type 0} (model : T → VersionData) (rules : Rules T) (replay_node
           absurd (omega (arith, lt, enough))
 
       -- they are not: then memory ran out
-      young_refuses : (entry : Option ℕ) (f : NodeFault) → assigned_count (has_image twin m).saver ≤ assigned_count (model t) → IsRestoreFault (model t) rules.form rules.room bytes.items entry f → RefusesToBegin model rules replay_node place f
+      young_refuses : (entry : Option ℕ) (f : NodeFault) → assigned_count (has_image twin m).saver ≤ assigned_count (model t) → IsRestoreFault (model t) rules.form rules.room bytes entry f → RefusesToBegin model rules placed place f
       young_refuses entry f ge h =
           let has = has_image twin m in
           let state = saved_state (setting_of model rules) has.saver has.entries in
           let as_saved = saved (map model rules.tables) has.at place (model t) state (in_saver twin m) (record { chain = are.chain; here = version_here }) ge has.node in
           let memory : f ≡ fault.Memory = as_saved.taken (Some (assigned_count has.saver)) entry f refl
           (subst (λ l. IsRestoreFault (model t) rules.form rules.room l entry f) has.spelling h) in
-          subst (RefusesToBegin model rules replay_node place) (sym memory) tt
+          subst (RefusesToBegin model rules placed place) (sym memory) tt
 
-      pub refuses : (entry : Option ℕ) (f : NodeFault) → IsRestoreFault (model t) rules.form rules.room bytes.items entry f → RefusesToBegin model rules replay_node place f
+      pub refuses : (entry : Option ℕ) (f : NodeFault) → IsRestoreFault (model t) rules.form rules.room bytes entry f → RefusesToBegin model rules placed place f
       refuses entry f h =
           ⊎_elim (λ lt. older_refuses entry f lt h) (λ ge. young_refuses entry f ge h) (cases_lt (assigned_count (model t)) (assigned_count (has_image twin m).saver))
 
 -- ---- steps of a node
 
-abbrev replay_node_with : {T : Type 0} → ℕ → NodeState T → Option (Vec ℕ Global) → ReplayNode T
-replay_node_with index node image = record { index = index; node = node; image = image }
+abbrev placed_node : {T : Type 0} → ℕ → NodeState T → Option (List ℕ) → PlacedNode T
+placed_node index node image = record { index = index; node = node; image = image }
 
-module _ {T : Type 0} (model : T → VersionData) (rules : Rules T) (old new : ReplayNode T) (told : List (Vec ℕ Global)) where
-  pub restarts : (node : NodeState T) → BeginsAgain model rules old old.index node → new ≡ replay_node_with old.index node old.image → NodeSteps model rules (λ v end. Restarts) old told Restarted new told
+module _ {T : Type 0} (model : T → VersionData) (rules : Rules T) (old new : PlacedNode T) (told : List (List ℕ)) where
+  pub restarts : (node : NodeState T) → BeginsAgain model rules old old.index node → new ≡ placed_node old.index node old.image → NodeSteps model rules (λ v end. Restarts) old told Restarted new told
   restarts node begins same =
       node_stepped model rules (λ v end. Restarts) old new told told Restarted
       (λ twin strings last are m sent end.
-      node_steps_to model rules (λ v end. Restarts) twin (record twin { strings = twin.saved }) strings (model old.node.table) last Restarted new (replay_node_with old.index node old.image) told same (refl, refl)
-      (subst (λ k. Mirrors model rules (replay_node_with old.index node old.image) (record twin { index = k; strings = twin.saved })) m.index (begins twin m)) sent)
+      node_steps_to model rules (λ v end. Restarts) twin (record twin { strings = twin.saved }) strings (model old.node.table) last Restarted new (placed_node old.index node old.image) told same (refl, refl)
+      (subst (λ k. Mirrors model rules (placed_node old.index node old.image) (record twin { index = k; strings = twin.saved })) m.index (begins twin m)) sent)
 
   module _ (place : ℕ) where
-    pub restarts-under : (node : NodeState T) → BeginsAgain model rules old place node → new ≡ replay_node_with place node old.image
+    pub restarts-under : (node : NodeState T) → BeginsAgain model rules old place node → new ≡ placed_node place node old.image
         → NodeSteps model rules (λ v end. RestartsUnder (setting_of model rules) place) old told Restarted new told
     restarts-under node begins same =
         node_stepped model rules (λ v end. RestartsUnder (setting_of model rules) place) old new told told Restarted
         (λ twin strings last are m sent end.
         let next : MachineNode = record twin { index = place; strings = twin.saved } in
         let begun = begins twin m in
-        let stands = table_here model rules (replay_node_with place node old.image) next begun in
-        node_steps_to model rules (λ v end. RestartsUnder (setting_of model rules) place) twin next strings (model old.node.table) last Restarted new (replay_node_with place node old.image) told same
+        let stands = table_here model rules (placed_node place node old.image) next begun in
+        node_steps_to model rules (λ v end. RestartsUnder (setting_of model rules) place) twin next strings (model old.node.table) last Restarted new (placed_node place node old.image) told same
         (inr (λ older. not_older (setting_of model rules) twin (model node.table) place older.0 older.1 old.image stands begun.saved older.2, (refl, refl)))
         begun sent)
 
@@ -243,11 +242,10 @@ module _ {T : Type 0} (model : T → VersionData) (rules : Rules T) (old new : R
     restart-refused fault.Full refuses same = absurd refuses
 
 -- under its own version a node never has older tables
-module _ {T : Type 0} (model : T → VersionData) (rules : Rules T) (old : ReplayNode T) (ready : IsReady model rules old) where
+module _ {T : Type 0} (model : T → VersionData) (rules : Rules T) (old : PlacedNode T) (twin : MachineNode) (m : Mirrors model rules old twin) where
   pub only_memory : (f : NodeFault) → RefusesToBegin model rules old old.index f → f ≡ fault.Memory
   only_memory (fault.OlderTables need have) refuses =
-      let m = ready.mirrors in
-      absurd (not_older (setting_of model rules) ready.twin (model old.node.table) old.index need have old.image (table_here model rules old ready.twin m) m.saved (refuses ready.twin m))
+      absurd (not_older (setting_of model rules) twin (model old.node.table) old.index need have old.image (table_here model rules old twin m) m.saved (refuses twin m))
   only_memory fault.Memory refuses = refl
   only_memory (fault.Malformed at) refuses = absurd refuses
   only_memory fault.OtherForm refuses = absurd refuses

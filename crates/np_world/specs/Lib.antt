@@ -1,6 +1,10 @@
+pub mod Calls
+pub mod Histories
 pub mod Laws
+pub mod Moments
 pub mod ReportTexts
 pub mod Reports
 pub mod Runs
+pub mod Told
 pub mod World
 pub mod inside

@@ -5,17 +5,17 @@ use Rattle.np_node.specs.Nodes.{NodeState}
 use Rattle.np_node.specs.Strings.{Entry}
 use Rattle.np_world.specs.declared.replies.Reply.{Reply}
 
--- a node at the end: the place of its version in the chain, itself, and its last image
-pub record NodeAtEnd (T : Type 0) : Type 0 where
+-- a node with the place of its version in the chain, and the bytes of its last image, if it has one
+pub record PlacedNode (T : Type 0) : Type 0 where
   pub index : ℕ
   pub node : NodeState T
   pub image : Option (List ℕ)
 
--- the replies in the order of the events, and the messages and the nodes in the order of their numbers
+-- the replies in the order of the events, and the messages and the nodes at the end in the order of their numbers
 pub record ReportData (T : Type 0) : Type 0 where
   pub replies : List Reply
   pub sent : List (List ℕ)
-  pub nodes : List (NodeAtEnd T)
+  pub nodes : List (PlacedNode T)
 
 abbrev pub replies_of : {T : Type 0} → ReportData T → List Reply
 replies_of report = report.replies
@@ -39,7 +39,7 @@ pub record NodeReport : Type 0 where
   pub index : ℕ
   pub entries : List Entry
 
-abbrev pub node_report : {T : Type 0} → NodeAtEnd T → NodeReport
+abbrev pub node_report : {T : Type 0} → PlacedNode T → NodeReport
 node_report end = record { index = end.index; entries = end.node.entries }
 
 -- the nodes in the order of their numbers

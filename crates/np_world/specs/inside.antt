@@ -1,7 +1,7 @@
 pub mod Mirrors
+pub mod Placing
 pub mod Played
-pub mod ReportViews
 pub mod ReportWriting
 pub mod Restarting
-pub mod Told
+pub mod Views
 pub mod Worlds

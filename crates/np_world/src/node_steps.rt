@@ -1,14 +1,14 @@
-//! What each event does to a node of a replay.
-ghost use Rattle.std.specs.Prelude.{◌≡◌, ◌<◌, ◌≤◌, chars, length, IfErr, IfOk, IsSome};
-ghost use Rattle.np_world.specs.World.{Accepts, Asks, Delivers, Forges, Forgets, Restarts, RestartsUnder, Saves, Upgrades};
-ghost use Rattle.np_world.specs.inside.Mirrors.{rules_of, setting_of, IsReady, NodeSteps};
-ghost use Rattle.np_world.specs.inside.Restarting.{BeginsAgain, RefusesToBegin};
-ghost use Rattle.np_world.specs.inside.Told.{refusal_of};
+//! What each event does to a node of a replay: one call.
+ghost use Rattle.std.specs.Prelude.{◌≡◌, ◌<◌, ◌≤◌, chars, length, IfOk};
+ghost use Rattle.np_world.specs.Calls.{CallsAccept, CallsDeliver, CallsForget, CallsImage, CallsRestore, CallsSame, CallsTake, CallsUpgrade, RestoresAt};
+ghost use Rattle.np_world.specs.inside.Placing.{IsPlaced};
+ghost use Rattle.np_world.specs.inside.Views.{bytes_of, rules_of, placed_of, stage_of};
+ghost use Rattle.np_world.specs.Told.{refusal_of};
 
 use crate::replay_nodes::{Common, ReplayNode};
 use crate::replies::Reply;
 use np_code_points::Memory;
-use np_node::{Accepted, Node, NodeFault, Taken};
+use np_node::{Accepted, ImageFault, Node, NodeFault, Taken};
 use np_versions::NormTable;
 
 /// The reply that tells a refusal; want of memory is none.
@@ -30,15 +30,12 @@ fn refusal(fault: NodeFault) -> Result<Reply, Memory>
 
 /// The node is given a string, and what it tells is sent.
 pub(crate) fn accept<T: NormTable>(
-    common: &Common<'_, '_, T>,
     replay_node: &mut ReplayNode<'_, T>,
     sent: &mut Vec<Vec<u8>>,
     string: &str,
 ) -> Result<Reply, Memory>
-    ensures node_step { IfOk result (λ reply. NodeSteps T.model (rules_of common.now)
-        (λ version last. Accepts (setting_of T.model (rules_of common.now)) version (chars string.now))
-        replay_node.old sent.old.items reply replay_node.new sent.new.items) }
-    ensures image { replay_node.new.image ≡ replay_node.old.image }
+    ensures { IfOk result (λ reply. CallsAccept T.model (chars string.now)
+        (stage_of replay_node.old (bytes_of sent.old.items)) reply (stage_of replay_node.new (bytes_of sent.new.items))) }
 {
     let number = sent.len();
     match replay_node.node.accept(string.as_bytes()) {
@@ -53,38 +50,27 @@ pub(crate) fn accept<T: NormTable>(
 
 /// The message of this number reaches the node, which trusts what was sent no more than other bytes.
 pub(crate) fn deliver<T: NormTable>(
-    common: &Common<'_, '_, T>,
     replay_node: &mut ReplayNode<'_, T>,
     sent: &Vec<Vec<u8>>,
     message: usize,
 ) -> Result<Reply, Memory>
-    ensures node_step { IfOk result (λ reply. NodeSteps T.model (rules_of common.now)
-        (λ version last. Delivers (setting_of T.model (rules_of common.now)) version message)
-        replay_node.old sent.now.items reply replay_node.new sent.now.items) }
-    ensures image { replay_node.new.image ≡ replay_node.old.image }
+    ensures { IfOk result (λ reply. CallsDeliver T.model message
+        (stage_of replay_node.old (bytes_of sent.now.items)) reply (stage_of replay_node.new (bytes_of sent.now.items))) }
 {
     if message >= sent.len() {
         return Ok(Reply::NoMessage);
     }
-    // What one node sent, another never refuses for its shape or its key.
-    np_node::laws::exchange();
-    np_node::laws::messages();
-    forge(common, replay_node, sent[message].as_slice())
+    forge(replay_node, sent[message].as_slice())
 }
 
 /// Bytes reach the node as a message, whoever made them.
 pub(crate) fn forge<T: NormTable>(
-    common: &Common<'_, '_, T>,
     replay_node: &mut ReplayNode<'_, T>,
     bytes: &[u8],
 ) -> Result<Reply, Memory>
-    ensures node_step { (messages : _) → IfOk result (λ reply. NodeSteps T.model (rules_of common.now)
-        (λ version last. Forges (setting_of T.model (rules_of common.now)) version bytes.now)
-        replay_node.old messages reply replay_node.new messages) }
-    ensures image { replay_node.new.image ≡ replay_node.old.image }
+    ensures { (sent : _) → IfOk result (λ reply. CallsTake T.model bytes.now
+        (stage_of replay_node.old sent) reply (stage_of replay_node.new sent)) }
 {
-    // Bytes spell one message at most.
-    np_node::laws::messages();
     match replay_node.node.take(bytes) {
         Ok(Taken::Kept) => Ok(Reply::Kept),
         Ok(Taken::Known) => Ok(Reply::Known),
@@ -97,14 +83,9 @@ pub(crate) fn upgrade<'t, T: NormTable>(
     common: &Common<'_, 't, T>,
     replay_node: &mut ReplayNode<'t, T>,
 ) -> Reply
-    requires { IsReady T.model (rules_of common.now) replay_node.old }
-    ensures node_step { (messages : _) → NodeSteps T.model (rules_of common.now)
-        (λ version last. Upgrades (setting_of T.model (rules_of common.now)))
-        replay_node.old messages result replay_node.new messages }
-    ensures image { replay_node.new.image ≡ replay_node.old.image }
+    requires { IsPlaced (rules_of common.now) (placed_of replay_node.old) }
+    ensures { (sent : _) → CallsUpgrade (rules_of common.now) (stage_of replay_node.old sent) result (stage_of replay_node.new sent) }
 {
-    // What a node keeps and saved holds under the next version too.
-    np_node::laws::saved();
     if replay_node.index >= common.chain.len() - 1 {
         return Reply::LastVersion;
     }
@@ -115,13 +96,8 @@ pub(crate) fn upgrade<'t, T: NormTable>(
 }
 
 /// The node saves what it keeps.
-pub(crate) fn save<T: NormTable>(
-    common: &Common<'_, '_, T>,
-    replay_node: &mut ReplayNode<'_, T>,
-) -> Result<Reply, Memory>
-    ensures node_step { (messages : _) → IfOk result (λ reply. NodeSteps T.model (rules_of common.now)
-        (λ version last. Saves) replay_node.old messages reply replay_node.new messages) }
-    ensures image { IfOk result (λ reply. IsSome replay_node.new.image) }
+pub(crate) fn save<T: NormTable>(replay_node: &mut ReplayNode<'_, T>) -> Result<Reply, Memory>
+    ensures { (sent : _) → IfOk result (λ reply. CallsImage T.model (stage_of replay_node.old sent) reply (stage_of replay_node.new sent)) }
 {
     let image = replay_node.node.image()?;
     replay_node.image = Some(image);
@@ -129,87 +105,40 @@ pub(crate) fn save<T: NormTable>(
 }
 
 /// A node that begins again under the version at this place of the chain with what another saved
-/// last, or with nothing. It is refused for older tables and for want of memory alone.
+/// last, or with nothing.
 fn begun_again<'t, T: NormTable>(
     common: &Common<'_, 't, T>,
     replay_node: &ReplayNode<'t, T>,
     place: usize,
-) -> Result<Node<'t, T>, NodeFault>
-    requires ready { IsReady T.model (rules_of common.now) replay_node.now }
+) -> Result<Node<'t, T>, ImageFault>
+    requires room { common.now.room ≤ 65536 }
     requires within { place < length common.now.chain.now }
-    ensures begins { IfOk result (BeginsAgain T.model (rules_of common.now) replay_node.now place) }
-    ensures refused { IfErr result (RefusesToBegin T.model (rules_of common.now) replay_node.now place) }
+    ensures { RestoresAt T.model (rules_of common.now) place (placed_of replay_node.now) result }
 {
     let table = common.chain.at(place);
     let Some(image) = &replay_node.image else {
         return Ok(Node::new(common.alloc, table, common.form, common.room));
     };
-    // An image is never refused under a version with as many code points as that of its node, and
-    // bytes are one image at most.
-    np_node::laws::saved();
-    np_node::laws::images();
-    match Node::restore(
+    Node::restore(
         common.alloc,
         table,
         common.form,
         common.room,
         image.as_slice(),
-    ) {
-        Ok(node) => Ok(node),
-        Err(refused) => Err(refused.fault),
-    }
-}
-
-/// The one fault that a restart under the node's own version can meet.
-fn want_of_memory(fault: NodeFault) -> Memory
-    requires { fault ≡ NodeFault.Memory }
-{
-    match fault {
-        NodeFault::Memory => Memory,
-        NodeFault::Malformed { .. } => unreachable!(),
-        NodeFault::OtherForm => unreachable!(),
-        NodeFault::TooLong => unreachable!(),
-        NodeFault::NotUtf8 { .. } => unreachable!(),
-        NodeFault::Unassigned { .. } => unreachable!(),
-        NodeFault::KeyDiffers => unreachable!(),
-        NodeFault::OlderTables { .. } => unreachable!(),
-        NodeFault::Full => unreachable!(),
-    }
-}
-
-/// The node begins again under its version with what it saved last, or with nothing.
-pub(crate) fn restart<'t, T: NormTable>(
-    common: &Common<'_, 't, T>,
-    replay_node: &mut ReplayNode<'t, T>,
-) -> Result<Reply, Memory>
-    requires { IsReady T.model (rules_of common.now) replay_node.old }
-    ensures node_step { (messages : _) → IfOk result (λ reply. NodeSteps T.model (rules_of common.now)
-        (λ version last. Restarts) replay_node.old messages reply replay_node.new messages) }
-    ensures image { replay_node.new.image ≡ replay_node.old.image }
-{
-    match begun_again(common, replay_node, replay_node.index) {
-        Ok(begun) => {
-            replay_node.node = begun;
-            Ok(Reply::Restarted)
-        }
-        Err(fault) => Err(want_of_memory(fault)),
-    }
+    )
 }
 
 /// The node begins again under the version at this place of the chain with what it saved last, or
-/// with nothing, unless it saved under a version with more assigned code points: then it stays as it
-/// is.
-pub(crate) fn restart_under<'t, T: NormTable>(
+/// with nothing. Where that is refused it stays as it is.
+pub(crate) fn restart<'t, T: NormTable>(
     common: &Common<'_, 't, T>,
     replay_node: &mut ReplayNode<'t, T>,
     place: usize,
 ) -> Result<Reply, Memory>
-    requires ready { IsReady T.model (rules_of common.now) replay_node.old }
+    requires room { common.now.room ≤ 65536 }
     requires within { place < length common.now.chain.now }
-    ensures node_step { (messages : _) → IfOk result (λ reply. NodeSteps T.model (rules_of common.now)
-        (λ version last. RestartsUnder (setting_of T.model (rules_of common.now)) place)
-        replay_node.old messages reply replay_node.new messages) }
-    ensures image { replay_node.new.image ≡ replay_node.old.image }
+    ensures { (sent : _) → IfOk result (λ reply. CallsRestore T.model (rules_of common.now) place
+        (stage_of replay_node.old sent) reply (stage_of replay_node.new sent)) }
 {
     match begun_again(common, replay_node, place) {
         Ok(node) => {
@@ -217,24 +146,14 @@ pub(crate) fn restart_under<'t, T: NormTable>(
             replay_node.node = node;
             Ok(Reply::Restarted)
         }
-        Err(refused) => refusal(refused),
+        Err(refused) => refusal(refused.fault),
     }
 }
 
 /// The node is asked whether two strings that it keeps are equal.
-pub(crate) fn ask<T: NormTable>(
-    common: &Common<'_, '_, T>,
-    replay_node: &ReplayNode<'_, T>,
-    left: &str,
-    right: &str,
-) -> Reply
-    ensures { (messages : _) → NodeSteps T.model (rules_of common.now)
-        (λ version last. Asks (setting_of T.model (rules_of common.now)) last (chars left.now) (chars right.now))
-        replay_node.now messages result replay_node.now messages }
+pub(crate) fn ask<T: NormTable>(replay_node: &ReplayNode<'_, T>, left: &str, right: &str) -> Reply
+    ensures { (sent : _) → CallsSame T.model (chars left.now) (chars right.now) (stage_of replay_node.now sent) result (stage_of replay_node.now sent) }
 {
-    // Along a chain forms stay, and equal forms are equivalence.
-    np_chain::laws::stability();
-    np_chain::laws::idempotence();
     match replay_node.node.same(left, right) {
         None => Reply::NotKept,
         Some(true) => Reply::Equal,
@@ -243,15 +162,8 @@ pub(crate) fn ask<T: NormTable>(
 }
 
 /// The node forgets a string, if it keeps it.
-pub(crate) fn forget<T: NormTable>(
-    common: &Common<'_, '_, T>,
-    replay_node: &mut ReplayNode<'_, T>,
-    string: &str,
-) -> Reply
-    ensures node_step { (messages : _) → NodeSteps T.model (rules_of common.now)
-        (λ version last. Forgets (chars string.now))
-        replay_node.old messages result replay_node.new messages }
-    ensures image { replay_node.new.image ≡ replay_node.old.image }
+pub(crate) fn forget<T: NormTable>(replay_node: &mut ReplayNode<'_, T>, string: &str) -> Reply
+    ensures { (sent : _) → CallsForget (chars string.now) (stage_of replay_node.old sent) result (stage_of replay_node.new sent) }
 {
     if replay_node.node.forget(string) {
         Reply::Forgotten

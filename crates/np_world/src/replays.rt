@@ -4,11 +4,11 @@ ghost use Rattle.std.specs.Option.{option_map};
 ghost use Rattle.np_versions.specs.Versions.{VersionData};
 ghost use Rattle.np_node.specs.Nodes.{state_of};
 ghost use Rattle.np_schedules.specs.Events.{Save};
+ghost use Rattle.np_world.specs.Moments.{AreNewAt, AreRules};
 ghost use Rattle.np_world.specs.Reports.{image_at, index_at, node_at, replies_of};
 ghost use Rattle.np_world.specs.Runs.{AgreeOn, AnswerAlike, AreKeysUnder, HasOneRun, InTheRun, IsLast, IsNodeOf, LendsImages, LendsMessages, texts_in};
-ghost use Rattle.np_world.specs.inside.Mirrors.{rules_of, AreRules};
-ghost use Rattle.np_world.specs.inside.Played.{IsPlayed};
-ghost use Rattle.np_world.specs.inside.Worlds.{Begins, EndsRun};
+ghost use Rattle.np_world.specs.inside.Played.{IsPlayed, IsReplayed};
+ghost use Rattle.np_world.specs.inside.Views.{moment_of, placed_of, rules_of};
 ghost use Rattle.np_schedules.specs.Schedules.{IsStandable, NameNodes, NameVersions};
 ghost use Rattle.np_schedules.specs.EventLines.{event_of};
 
@@ -28,9 +28,9 @@ fn first_replay_nodes<'t, T: NormTable>(
     common: &Common<'_, 't, T>,
     starts: &[usize],
 ) -> Result<Vec<ReplayNode<'t, T>>, Memory>
-    requires rules { AreRules T.model (rules_of common.now) }
+    requires room { common.now.room ≤ 65536 }
     requires starts { (i : ℕ) → i < length starts.now → slice_index starts.now i < length common.now.chain.now }
-    ensures { IfOk result (λ replay_nodes. Begins T.model (rules_of common.now) replay_nodes.items starts.now) }
+    ensures { IfOk result (λ replay_nodes. AreNewAt (rules_of common.now) starts.now (map placed_of replay_nodes.items)) }
 {
     let mut replay_nodes = Vec::with_capacity(common.alloc, starts.len())?;
     for start in starts {
@@ -59,12 +59,14 @@ fn run_events<'t, T: NormTable>(
     events: &[EventLine],
 ) -> Result<Told, Memory>
     requires rules { AreRules T.model (rules_of common.now) }
-    requires begun { Begins T.model (rules_of common.now) replay_nodes.old starts.now }
+    requires new { AreNewAt (rules_of common.now) starts.now (map placed_of replay_nodes.old) }
     requires named { NameNodes (length starts.now) (map event_of events.now) }
     requires versions { NameVersions (length common.now.chain.now) (map event_of events.now) }
-    ensures { IfOk result (λ told. EndsRun T.model (rules_of common.now) starts.now (map event_of events.now) told.replies.items
-        replay_nodes.new told.sent.items) }
+    ensures { IfOk result (λ told. IsPlayed T.model (rules_of common.now) starts.now (map event_of events.now) told.replies.items
+        (moment_of replay_nodes.new told.sent.items)) }
 {
+    // At each moment of a history each node has the table of its place.
+    crate::laws::histories::<T>();
     let mut replies = Vec::with_capacity(common.alloc, events.len())?;
     let mut sent = Vec::new(common.alloc);
     for event in events {
@@ -82,7 +84,7 @@ fn play<'t, T: NormTable>(
     requires versions { schedule.now.versions ≡ length common.now.chain.now }
     requires room { common.now.room ≡ schedule.now.room }
     requires stands { IsStandable schedule.now }
-    ensures { IfOk result (λ report. IsPlayed T.model common.now.chain.now common.now.form schedule.now report) }
+    ensures { IfOk result (λ report. IsReplayed T.model common.now.chain.now common.now.form schedule.now report) }
 {
     let starts = schedule.starts();
     let mut replay_nodes = first_replay_nodes(common, starts)?;
@@ -134,11 +136,8 @@ pub fn replay<'t, T: NormTable>(
         → (i j : ℕ) → IfSome (node_at report i) (λ node. IfSome (node_at report j)
         (λ other. AnswerAlike last form (state_of T.model node) (state_of T.model other)))) }
 {
-    // All clauses speak of one run: there is no other.
-    crate::laws::one_run();
-    // Along a chain forms stay, and equal forms are equivalence.
-    np_chain::laws::stability();
-    np_chain::laws::idempotence();
+    // What was replayed is a history of calls, and each history is a run of the machine.
+    crate::laws::histories::<T>();
     // A chain's versions extend one another.
     chain.meets_conditions();
     let room = schedule.room();

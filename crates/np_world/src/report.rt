@@ -23,7 +23,7 @@ pub struct Report<'t, T: NormTable> {
 
 impl<'t, T: NormTable> Model for Report<'t, T> {
     ghost use Rattle.np_world.specs.Reports.{ReportData};
-    ghost use Rattle.np_world.specs.inside.ReportViews.{report_of};
+    ghost use Rattle.np_world.specs.inside.Views.{report_of};
 
     ghost Value = { ReportData T };
 

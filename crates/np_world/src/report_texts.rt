@@ -4,7 +4,7 @@ ghost use Rattle.std.specs.Fmt.{decimal};
 ghost use Rattle.std.specs.List.{enumerate_from};
 ghost use Rattle.np_code_points.specs.Codes.{code_digits};
 ghost use Rattle.np_world.specs.Reports.{node_report};
-ghost use Rattle.np_world.specs.inside.ReportViews.{end_of};
+ghost use Rattle.np_world.specs.inside.Views.{placed_of};
 ghost use Rattle.np_world.specs.inside.ReportWriting.{gap};
 ghost use Rattle.np_world.specs.declared.replies.Reply.TheVariants.{OlderTables};
 ghost use Rattle.np_world.specs.ReportTexts.{codes_text, entry_line, node_lines, reply_line, reply_text, text_of_report};
@@ -136,7 +136,7 @@ fn write_node<T: NormTable>(
     number: usize,
     replay_node: &ReplayNode<'_, T>,
 ) -> Result<(), Memory>
-    ensures { IfOk result (λ _. string_bytes out.new ≡ string_bytes out.old ++ node_lines number (node_report (end_of replay_node.now))) }
+    ensures { IfOk result (λ _. string_bytes out.new ≡ string_bytes out.old ++ node_lines number (node_report (placed_of replay_node.now))) }
 {
     let index = replay_node.index;
     let entries = replay_node.node.len();
@@ -160,7 +160,7 @@ fn write_nodes<T: NormTable>(
     replay_nodes: &[ReplayNode<'_, T>],
 ) -> Result<(), Memory>
     ensures { IfOk result (λ _. string_bytes out.new ≡ string_bytes out.old ++
-        flat_map (λ p. node_lines p.0 p.1) (enumerate_from 0 (map node_report (map end_of replay_nodes.now)))) }
+        flat_map (λ p. node_lines p.0 p.1) (enumerate_from 0 (map node_report (map placed_of replay_nodes.now)))) }
 {
     for number in 0..replay_nodes.len() {
         write_node(out, number, &replay_nodes[number])?;

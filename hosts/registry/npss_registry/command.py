@@ -15,10 +15,11 @@ import npss
 from npss import BadTables, Refused
 
 from npss_registry import LogAway, Outcome, Registration, Registry, RegistryError, Version, init
-from npss_registry.errors import CannotServe, InUse, StoreAway, UnknownScheme
+from npss_registry.address import address_of, change_address
+from npss_registry.errors import CannotServe, InUse, StoreAway, StoreError
 from npss_registry.failures import modules, plainly
 from npss_registry.judge import Judge
-from npss_registry.logs import scheme_of
+from npss_registry.logs import check_name
 from npss_registry.opening import opened
 from npss_registry.records import FORMS, Setup
 from npss_registry.records import MOST_BYTES as MOST_BYTES_OF_NAME
@@ -65,8 +66,8 @@ def owner_of(word: str) -> str:
 def log_of(word: str) -> str:
     """A log as it was named."""
     try:
-        scheme_of(word)
-    except UnknownScheme as error:
+        check_name(word)
+    except StoreError as error:
         raise argparse.ArgumentTypeError(str(error)) from error
     return word
 
@@ -173,6 +174,13 @@ def _backup(words: argparse.Namespace) -> int:
     return DONE
 
 
+def _log(words: argparse.Namespace) -> int:
+    if words.log is not None:
+        change_address(words.store, words.log)
+    print(address_of(words.store))
+    return DONE
+
+
 def _relog(words: argparse.Namespace) -> int:
     done = relog(words.stores, words.log, words.source)
     for name in done.without_end:
@@ -181,6 +189,12 @@ def _relog(words: argparse.Namespace) -> int:
     for one in done.lost:
         print(f"lost from {one.store}: {row_of(one.registration)}")
     return NO if done.lost else DONE
+
+
+def _serve(words: argparse.Namespace) -> int:
+    with modules():
+        from npss_registry.serving import Serving, serve
+    return serve(Serving(words.store, words.host, words.port, words.token_file, words.private, words.allow_host))
 
 
 def _check(words: argparse.Namespace) -> int:
@@ -210,7 +224,7 @@ def parser() -> argparse.ArgumentParser:
         return one
 
     one = command("init", "makes a store over a log, which it sets up where nobody has", "store", "data", "exclusions")
-    one.add_argument("--log", type=log_of, help="the path of a SQLite file, relative to the store's folder, or redis://HOST:PORT/NUMBER#PREFIX; else STORE.log")
+    one.add_argument("--log", type=log_of, help="the path of a SQLite file, relative to the store's folder, or a URL; else STORE.log")
     one.add_argument("--form", type=_lowered, choices=FORMS, help="the form of the keys; nfc where nobody says otherwise")
     one.add_argument("--room", type=between(0, 65536), help="the most strings of a shard, up to 65536")
     one.add_argument("--shards", type=between(1, MOST_SHARDS), help="how many shards, up to 1024; never to be changed")
@@ -226,6 +240,8 @@ def parser() -> argparse.ArgumentParser:
     command("status", "tells how far each shard was read, and what is parked", "store")
     command("upgrade", "goes on to a later version of Unicode", "store", "data", "exclusions")
     command("backup", "copies the store into a new file", "store", "to")
+    one = command("log", "tells how the store's log is named, or changes the name of the same log", "store")
+    one.add_argument("log", metavar="LOG", nargs="?", type=log_of, help="another name of the log, in which all has to stand that the store has read")
     one = command("relog", "brings stores over to another log, which begins with what they have read; once more where it was cut off")
     one.add_argument("stores", metavar="STORE", nargs="+")
     one.add_argument("--log", type=log_of, required=True, help="the new log, as init names it")
@@ -244,22 +260,15 @@ def parser() -> argparse.ArgumentParser:
     return made
 
 
-RUNS = {"claim": _claim, "forget": _forget, "find": _find, "same": _same, "list": _list, "status": _status,
-        "upgrade": _upgrade}
+# What works on a store by its registry, and what does so in another way.
+RUNS = {"claim": _claim, "forget": _forget, "find": _find, "same": _same, "list": _list, "status": _status, "upgrade": _upgrade}
+ALONE = {"init": _init, "backup": _backup, "log": _log, "relog": _relog, "serve": _serve, "check": _check}
 
 
 def run(words: argparse.Namespace) -> int:
     """Runs the command that the words ask for; its status."""
-    if words.command == "init":
-        return _init(words)
-    if words.command == "check":
-        return _check(words)
-    if words.command == "relog":
-        return _relog(words)
-    if words.command == "serve":
-        return _serve(words)
-    if words.command == "backup":
-        return _backup(words)
+    if words.command in ALONE:
+        return ALONE[words.command](words)
     registry = opened(words.store)
     try:
         status = RUNS[words.command](words, registry)
@@ -268,12 +277,6 @@ def run(words: argparse.Namespace) -> int:
         raise
     registry.close()
     return status
-
-
-def _serve(words: argparse.Namespace) -> int:
-    with modules():
-        from npss_registry.serving import Serving, serve
-    return serve(Serving(words.store, words.host, words.port, words.token_file, words.private, words.allow_host))
 
 
 def main(given: Optional[Sequence[str]] = None) -> int:

@@ -32,6 +32,18 @@ class UnknownScheme(StoreError):
         super().__init__(f"{name}: no log has this scheme; one of {schemes}, or a path")
 
 
+class PasswordInName(StoreError):
+    """A log was named with its password, which a store doesn't keep."""
+
+    def __init__(self, name: str):
+        super().__init__(f"{name}: a password doesn't stand in a log's name; put it into a file, and name that by ?password-file=FILE, "
+                         "or into the environment as NPSS_LOG_PASSWORD")
+
+
+class LogUnsafe(StoreError):
+    """The server of a log is set so that it may lose what it answered."""
+
+
 class Differs(StoreError):
     """A store and its log were set up unlike one another."""
 

@@ -11,8 +11,8 @@ from npss_registry.errors import CannotServe, RegistryError, StoreAway, StoreErr
 _PASSING = {sqlite3.SQLITE_PERM, sqlite3.SQLITE_BUSY, sqlite3.SQLITE_LOCKED, sqlite3.SQLITE_NOMEM, sqlite3.SQLITE_READONLY,
             sqlite3.SQLITE_IOERR, sqlite3.SQLITE_FULL, sqlite3.SQLITE_CANTOPEN}
 # Debian's packages of the modules that aren't Python's own.
-_PACKAGES = {"redis": "python3-redis", "starlette": "python3-starlette", "uvicorn": "python3-uvicorn", "h11": "python3-h11",
-             "prometheus_client": "python3-prometheus-client"}
+PACKAGES = {"redis": "python3-redis", "psycopg": "python3-psycopg", "starlette": "python3-starlette", "uvicorn": "python3-uvicorn", "h11": "python3-h11",
+            "prometheus_client": "python3-prometheus-client"}
 
 
 def told(path: str, error: sqlite3.Error, otherwise: str) -> RegistryError:
@@ -40,6 +40,6 @@ def modules() -> Iterator[None]:
     try:
         yield
     except ModuleNotFoundError as error:
-        package = _PACKAGES.get((error.name or "").partition(".")[0])
+        package = PACKAGES.get((error.name or "").partition(".")[0])
         wanted = f"Debian has it as {package}" if package else "install it"
         raise CannotServe(f"the Python module {error.name} is missing; {wanted}") from error

@@ -1,9 +1,18 @@
-"""The tables of a store, and how a store of an earlier layout is brought to the present one."""
+"""The tables of a store, and how a store of earlier versions is brought to what it has to be at present."""
 
+import logging
 import os
+import secrets
 import sqlite3
+import zlib
+from pathlib import Path
 
-from npss_registry.logs import scheme_of
+from npss_registry.errors import StoreError
+from npss_registry.logs.names import password_in, scheme_of, with_password_file, write_password
+from npss_registry.records import NOTHING_READ, Setup
+from npss_registry.rows import Version
+
+LOGGER = logging.getLogger("npss_registry")
 
 LAYOUT = 3
 _REGISTERED = "CREATE UNIQUE INDEX registered ON registration (shard, key, string) WHERE ended IS NULL"
@@ -63,6 +72,40 @@ def execute(base: sqlite3.Connection, statements: str) -> None:
         base.execute(statement)
 
 
+def create(path: str, setup: Setup, log: str, version: Version, empty: bytes) -> None:
+    """Makes a store with nothing in it. `empty` is the image of a node that keeps nothing."""
+    if os.path.exists(path):
+        raise StoreError(f"{path}: there is a file of this name already")
+    made = f"{path}.{secrets.token_hex(4)}"
+    base = sqlite3.connect(made, isolation_level=None)
+    try:
+        base.execute("PRAGMA journal_mode = WAL")
+        base.execute("PRAGMA synchronous = FULL")
+        base.execute("BEGIN")
+        execute(base, TABLES)
+        base.execute("INSERT INTO setup VALUES (?, ?, ?, ?, ?, ?, ?, 0, ?, NULL, ?)",
+                     (LAYOUT, setup.form, setup.room, setup.shards, setup.equivalents, log, secrets.token_hex(8), setup.name, setup.most_bytes))
+        add_version(base, 0, version)
+        base.executemany("INSERT INTO shard VALUES (?1, 0, NULL, ?2, ?2, 0)", ((number, NOTHING_READ) for number in range(setup.shards)))
+        base.executemany("INSERT INTO image VALUES (?1, ?2, 0, ?2, 0, 0)", ((number, empty) for number in range(setup.shards)))
+        base.execute("COMMIT")
+        base.close()
+        os.link(made, path)  # which fails where somebody else made one meanwhile
+    except FileExistsError as error:
+        raise StoreError(f"{path}: there is a file of this name already") from error
+    finally:
+        base.close()
+        for end in ("", "-wal", "-shm"):
+            if os.path.exists(made + end):
+                os.unlink(made + end)
+
+
+def add_version(base: sqlite3.Connection, number: int, version: Version) -> None:
+    """Writes the next version of the chain, whose number that is."""
+    base.execute("INSERT INTO version VALUES (?, ?, ?, ?, ?, ?)",
+                 (number, zlib.compress(version.data), zlib.compress(version.exclusions), *version.sums, version.tables().count))
+
+
 def raise_layout(base: sqlite3.Connection, path: str) -> None:
     """Brings the store of a path to the present layout, within the transaction of who asks."""
     layout, log = base.execute("SELECT layout, log FROM setup").fetchone() or (LAYOUT, "")
@@ -83,3 +126,29 @@ def _log_of(path: str, log: str) -> str:
         if found and os.path.exists(found):
             return found
     return log
+
+
+def without_password(base: sqlite3.Connection, path: str, log: str) -> str:
+    """The log of a store, whose password is taken out of the store into a file beside it; the log as it is where that can't be done now."""
+    password, file = password_in(log) if scheme_of(log) else None, f"{path}-password"
+    if password is None:
+        return log
+    try:
+        write_password(password, file, path)
+    except OSError:
+        if not _has(file, password):  # a call that was cut off has written it
+            return log
+    named = with_password_file(log, os.path.basename(file))
+    base.execute("PRAGMA secure_delete = ON")
+    base.execute("UPDATE setup SET log = ?", (named,))
+    base.execute("PRAGMA wal_checkpoint(TRUNCATE)")
+    LOGGER.warning("%s held the password of its log; that stands in %s now, which its owner alone may read", path, file)
+    return named
+
+
+def _has(file: str, password: str) -> bool:
+    """Whether a file has a password."""
+    try:
+        return Path(file).read_bytes() == f"{password}\n".encode()
+    except OSError:
+        return False

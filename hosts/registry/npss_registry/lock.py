@@ -40,6 +40,20 @@ class Lock:
         os.close(self._lock)
 
 
+def file_of(path: str) -> str:
+    """The file of a store, without symbolic links. StoreError where there is none, or who asks may not look."""
+    file = os.path.realpath(path)
+    try:
+        os.stat(file)
+    except (FileNotFoundError, NotADirectoryError) as error:
+        raise StoreError(f"{path}: there is no store; make one with `npss-registry init`") from error
+    except OSError as error:
+        raise StoreError(f"{path}: {error.strerror.lower()}") from error
+    if not os.path.isfile(file):
+        raise StoreError(f"{path}: it is no file")
+    return file
+
+
 def _locked(path: str, store: str) -> int:
     try:
         lock = os.open(path, os.O_RDWR | os.O_CREAT | os.O_CLOEXEC, 0o600)

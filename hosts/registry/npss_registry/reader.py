@@ -30,6 +30,8 @@ class Reader:
             versions = self._store.versions()
             self.versions, self.newest = len(versions), versions[-1]
             self.tables = self.newest.tables()
+            # How many code points each version assigns.
+            self.counts = [assigned for _, assigned in self._store.version_sums()]
         self.setup = self._store.setup
         self._parked: Optional[tuple[int, Parked]] = None
         self._stood: Optional[tuple[int, list[tuple[int, int]]]] = None

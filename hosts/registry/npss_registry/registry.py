@@ -12,7 +12,8 @@ from npss import Node, Refused, Tables
 
 from npss_registry import records
 from npss_registry.errors import Differs, LogAway, LogBroken, NameTooLong, NoLog, NotOneChain, StoreError
-from npss_registry.logs import PIECE, Log, located, open_log, shown, size_of
+from npss_registry.layout import create
+from npss_registry.logs import PIECE, Log, check_name, located, open_log, shown, size_of
 from npss_registry.records import Claim, Forget, Setup
 from npss_registry.shards import Outcome, Shard
 from npss_registry.store import Registration, Store, Version
@@ -44,6 +45,7 @@ def init(path: str, version: Version, setup: Optional[Setup], log_name: str) -> 
     Where it tells 0 for the most bytes of a name, a new log allows 1,024, and of another one they are taken. A relative path of
     the log counts from the store's folder. StoreError of a log that `relog` has begun and not ended.
     """
+    check_name(log_name)
     tables = version.tables()
     if os.path.lexists(path):
         raise StoreError(f"{path}: there is a file of this name already")
@@ -61,7 +63,7 @@ def init(path: str, version: Version, setup: Optional[Setup], log_name: str) -> 
         check_whole(log, found, log_name)
     finally:
         log.close()
-    Store.create(path, found, log_name, version, Node(tables, found.form, found.room).image())
+    create(path, found, log_name, version, Node(tables, found.form, found.room).image())
     return found
 
 

@@ -18,7 +18,9 @@ from npss_registry import records
 from npss_registry.errors import LogAway, LogBroken, StoreError
 from npss_registry.examine import Examiner
 from npss_registry.ledger import Ledger
-from npss_registry.logs import Log, located, make_file, open_log, record_at, scheme_of, shown, whole
+from npss_registry.logs import Log, check_name, located, open_log, record_at, scheme_of, shown, whole
+from npss_registry.logs.names import address
+from npss_registry.logs.sqlite_log import make_file
 from npss_registry.records import Claim, End, Setup
 from npss_registry.registry import is_whole, setup_of
 from npss_registry.shards import Shard
@@ -54,6 +56,7 @@ def relog(paths: Sequence[str], log_name: str, source: Optional[str] = None) -> 
     `source` is the path of another one of the stores, which is to be taken instead.
     StoreError of stores that have read nothing or are of two registries, and of a log in which something else stands.
     """
+    check_name(log_name)
     with ExitStack() as opened:
         stores = [_opened(path, opened) for path in paths]
         if not stores:
@@ -93,8 +96,10 @@ def _is_store(store: Store, path: str) -> bool:
 
 
 def _is_log(one: str, other: str) -> bool:
-    """Whether two names are those of one log."""
-    return one == other or not scheme_of(one) and not scheme_of(other) and os.path.realpath(one) == os.path.realpath(other)
+    """Whether two names are those of one log, whoever asks it and by which password."""
+    if scheme_of(one) or scheme_of(other):
+        return address(one) == address(other)
+    return os.path.realpath(one) == os.path.realpath(other)
 
 
 def _check_store(store: Store, first: Store, target: str) -> None:
@@ -103,7 +108,7 @@ def _check_store(store: Store, first: Store, target: str) -> None:
         raise StoreError(f"{store.path} and {first.path} are of two registries, or over two logs of one")
     if not any(store.places()):
         raise StoreError(f"{store.path}: it has read nothing of its log; leave it out, and make it anew by `npss-registry init`")
-    if store.moving is not None and store.moving != target and _is_begun(store.moving):
+    if store.moving is not None and not _is_log(store.moving, target) and _is_begun(store.moving):
         raise StoreError(f"{store.path}: it goes over to {shown(store.moving)} already; call relog with that log again")
 
 
@@ -116,7 +121,7 @@ class _Moving:
         self._target = target
         # The stores that may be taken: all, also where the one that was named has gone over already.
         self._sources = [store for store in stores if source is not None and _is_store(store, source)] or stores
-        self._marked = all(store.moving == target for store in stores)
+        self._marked = all(store.moving is not None and _is_log(store.moving, target) for store in stores)
         self._old = stores[0].setup
 
     def run(self) -> list[str]:

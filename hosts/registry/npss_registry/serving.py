@@ -2,7 +2,6 @@
 
 import asyncio
 import contextlib
-import importlib
 import logging
 import signal
 import socket
@@ -17,10 +16,9 @@ from starlette.applications import Starlette
 from npss_registry import system_log
 from npss_registry.connections import Connection
 from npss_registry.errors import CannotServe, RegistryError
-from npss_registry.failures import modules
 from npss_registry.guard import Guard, hosts_of
 from npss_registry.health import Health
-from npss_registry.logs import scheme_of
+from npss_registry.logs import kind_of, scheme_of
 from npss_registry.metrics import Metrics
 from npss_registry.overview import Overlook
 from npss_registry.reader import Reader
@@ -92,8 +90,7 @@ class Node:
         self._health = Health()
         self._worker = Worker(asked.store, self._health)
         if scheme_of(self._worker.log):
-            with modules():
-                importlib.import_module("redis")
+            kind_of(self._worker.log)
         self._watch = Watch(self._worker.log, self._worker.setup.shards, self._health, self._worker.news)
         self._worker.start()
         self._reader = Reader(asked.store)
@@ -114,7 +111,11 @@ class Node:
         return self._ended()
 
     def _tell(self) -> None:
-        """Tells what is served."""
+        """Tells what is served, and to which version the store was upgraded since it was served last."""
+        before, versions = self._worker.served, self._reader.counts
+        if 0 < before < len(versions):
+            LOGGER.info("upgraded from version %d of Unicode in this store, which assigns %d code points, to version %d, which assigns %d",
+                        before, versions[before - 1], len(versions), versions[-1])
         host, port = self._sockets[0].getsockname()[:2]
         address = f"[{host}]" if ":" in host else host
         told = "to be read alone" if self._tokens is None else f"{len(self._tokens)} tokens" if len(self._tokens) > 1 else "one token"

@@ -12,9 +12,10 @@ from typing import Any, Optional
 from npss_registry.errors import StoreError
 from npss_registry.failures import told
 from npss_registry.images import first_of, whole, write_rest
-from npss_registry.layout import LAYOUT, TABLES, execute, raise_layout
-from npss_registry.lock import Lock
-from npss_registry.logs import located, uri_path, uri_to_read
+from npss_registry.layout import LAYOUT, add_version, raise_layout, without_password
+from npss_registry.lock import Lock, file_of
+from npss_registry.logs.names import located
+from npss_registry.logs.sqlite_log import uri_path, uri_to_read
 from npss_registry.records import NOTHING_READ, Setup, form_of
 from npss_registry.rows import Event as Event
 from npss_registry.rows import Registration as Registration
@@ -40,7 +41,7 @@ class Store:
 
     def __init__(self, path: str, read_only: bool = False):
         self.path = path
-        file = _file_of(path)
+        file = file_of(path)
         # What a relative path of the log counts from.
         self.folder = os.path.dirname(file)
         self._lock = None if read_only else Lock(file)
@@ -71,6 +72,8 @@ class Store:
         self.setup = Setup(form_of(row[0]), row[1], row[2], bool(row[3]), row[4], most_bytes=row[9])
         # The log as it was named, and the one to which `relog` brings the store.
         self.named_log, self.node, self._openings, self.moving = row[5:9]
+        if not read_only:
+            self.named_log = without_password(self._base, file, self.named_log)
 
     @property
     def log(self) -> str:
@@ -90,7 +93,7 @@ class Store:
     @classmethod
     def copied(cls, path: str, to: str) -> "Store":
         """A copy of a store, of one moment, whatever others write meanwhile; in the present layout."""
-        file = _file_of(path)
+        file = file_of(path)
         try:
             with closing(sqlite3.connect(uri_to_read(file), uri=True)) as base, closing(sqlite3.connect(to)) as copy:
                 base.backup(copy)
@@ -102,34 +105,6 @@ class Store:
         made = cls(to, read_only=True)
         made.path, made.folder = path, os.path.dirname(file)
         return made
-
-    @classmethod
-    def create(cls, path: str, setup: Setup, log: str, version: Version, empty: bytes) -> None:
-        """Makes a store with nothing in it. `empty` is the image of a node that keeps nothing."""
-        if os.path.exists(path):
-            raise StoreError(f"{path}: there is a file of this name already")
-        made = f"{path}.{secrets.token_hex(4)}"
-        base = sqlite3.connect(made, isolation_level=None)
-        try:
-            base.execute("PRAGMA journal_mode = WAL")
-            base.execute("PRAGMA synchronous = FULL")
-            base.execute("BEGIN")
-            execute(base, TABLES)
-            base.execute("INSERT INTO setup VALUES (?, ?, ?, ?, ?, ?, ?, 0, ?, NULL, ?)",
-                         (LAYOUT, setup.form, setup.room, setup.shards, setup.equivalents, log, secrets.token_hex(8), setup.name, setup.most_bytes))
-            _add_version(base, 0, version)
-            base.executemany("INSERT INTO shard VALUES (?1, 0, NULL, ?2, ?2, 0)", ((number, NOTHING_READ) for number in range(setup.shards)))
-            base.executemany("INSERT INTO image VALUES (?1, ?2, 0, ?2, 0, 0)", ((number, empty) for number in range(setup.shards)))
-            base.execute("COMMIT")
-            base.close()
-            os.link(made, path)  # which fails where somebody else made one meanwhile
-        except FileExistsError as error:
-            raise StoreError(f"{path}: there is a file of this name already") from error
-        finally:
-            base.close()
-            for end in ("", "-wal", "-shm"):
-                if os.path.exists(made + end):
-                    os.unlink(made + end)
 
     def close(self) -> None:
         """Lets the store go."""
@@ -227,10 +202,19 @@ class Store:
         rows = self._base.execute("SELECT data_sum, exclusions_sum, assigned FROM version ORDER BY number")
         return [((data, exclusions), assigned) for data, exclusions, assigned in rows]
 
+    @property
+    def served(self) -> int:
+        """How many versions the store had when it was served last; 0 where that isn't known."""
+        return int(self._base.execute("PRAGMA user_version").fetchone()[0])
+
+    def note_served(self, versions: int) -> None:
+        """Writes that it is served, and how many versions it has."""
+        self._base.execute(f"PRAGMA user_version = {versions:d}")
+
     def add_version(self, version: Version) -> int:
         """Adds the next version of the chain, and answers its number."""
         number = self._base.execute("SELECT count(*) FROM version").fetchone()[0]
-        _add_version(self._base, number, version)
+        add_version(self._base, number, version)
         return int(number)
 
     def places(self) -> list[int]:
@@ -277,7 +261,12 @@ class Store:
         rows = self._base.execute("SELECT event, place, version FROM journal WHERE shard = ? ORDER BY number", (number,))
         return [Event(*row) for row in rows]
 
-    # ---- going over to another log
+    # ---- going over to another log, or to another name of it
+
+    def rename_log(self, name: str) -> None:
+        """Writes another name of the log."""
+        self._base.execute("UPDATE setup SET log = ?", (name,))
+        self.named_log = name
 
     def begin_moving(self, log: str, lost: Sequence[tuple[int, Registration]]) -> None:
         """Writes that the store goes over to another log, and what will be lost, each with its shard. No node opens it until it is there."""
@@ -384,22 +373,3 @@ class Store:
 
     def _one(self, query: str, *given: Any) -> Optional[Registration]:
         return next(self._some(query, *given), None)
-
-
-def _file_of(path: str) -> str:
-    """The file of a store, without symbolic links. StoreError where there is none, or who asks may not look."""
-    file = os.path.realpath(path)
-    try:
-        os.stat(file)
-    except (FileNotFoundError, NotADirectoryError) as error:
-        raise StoreError(f"{path}: there is no store; make one with `npss-registry init`") from error
-    except OSError as error:
-        raise StoreError(f"{path}: {error.strerror.lower()}") from error
-    if not os.path.isfile(file):
-        raise StoreError(f"{path}: it is no file")
-    return file
-
-
-def _add_version(base: sqlite3.Connection, number: int, version: Version) -> None:
-    base.execute("INSERT INTO version VALUES (?, ?, ?, ?, ?, ?)",
-                 (number, zlib.compress(version.data), zlib.compress(version.exclusions), *version.sums, version.tables().count))

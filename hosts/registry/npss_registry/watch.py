@@ -6,7 +6,7 @@ from collections.abc import Callable, Sequence
 from contextlib import suppress
 from typing import Optional
 
-from npss_registry.errors import LogBroken, NoLog, RegistryError, StoreError
+from npss_registry.errors import LogBroken, LogUnsafe, NoLog, RegistryError, StoreError
 from npss_registry.health import Health
 from npss_registry.logs import Log, open_log
 
@@ -63,7 +63,7 @@ class Watch:
             with suppress(Exception):
                 self._log.close()
             self._log = None
-        if isinstance(error, (LogBroken, StoreError)) and not isinstance(error, NoLog):  # it is no log any more, which the registry finds where it reads on
+        if isinstance(error, (LogBroken, StoreError)) and not isinstance(error, (LogUnsafe, NoLog)):  # it is no log any more, which the registry finds where it reads on
             self._tell([-1] * self._shards)
         else:
             self._health.log.begin(str(error) if isinstance(error, RegistryError) else f"{type(error).__name__}: {error}")

@@ -11,7 +11,7 @@ from typing import Any, Optional, Union
 
 from npss import Refused
 
-from npss_registry.errors import InUse, LogAway, NoLog, NotTried, StoreAway
+from npss_registry.errors import InUse, LogAway, LogUnsafe, NoLog, NotTried, StoreAway
 from npss_registry.failures import plainly
 from npss_registry.health import Health
 from npss_registry.opening import opened, opening
@@ -27,6 +27,8 @@ WORK = 1 << 16
 SHARDS = 32
 # A registry that can't be begun is tried again after so many seconds, at first and at most.
 FIRST_PAUSE, MOST_PAUSE = 0.25, 30.0
+# What is wrong with a log that somebody may mend.
+AWAY = (LogAway, LogUnsafe, NoLog)
 
 
 @dataclass
@@ -60,6 +62,8 @@ class Worker:
         with opening(path):
             self._store: Optional[Store] = Store(path)
         self.setup, self.log, self.node = self._store.setup, self._store.log, self._store.node
+        # How many versions the store had when it was served last.
+        self.served = self._store.served
         self._condition = threading.Condition()
         self._waiting: deque[_Asked] = deque()
         self._unread: dict[int, None] = {}
@@ -202,7 +206,9 @@ class Worker:
                 self._store = Store(self._path)
         try:
             self.registry = opened(self._path, self._store)
-        except (LogAway, NoLog):
+            with plainly(self._path):
+                self._store.note_served(len(self._store.version_sums()))
+        except AWAY:
             raise
         except BaseException:
             self._let_go()
@@ -220,12 +226,12 @@ class Worker:
                 return
             except InUse as error:  # somebody works on it between two attempts
                 self._retry(StoreAway(str(error)))
-            except (LogAway, NoLog, StoreAway) as error:
+            except (*AWAY, StoreAway) as error:
                 self._retry(error)
         self._answer_all(batch, self._failed[1])
 
     def _retry(self, error: BaseException) -> None:
-        (self._health.log if isinstance(error, (LogAway, NoLog)) else self._health.store).begin(str(error))
+        (self._health.log if isinstance(error, AWAY) else self._health.store).begin(str(error))
         self._failed = time.monotonic(), NotTried(str(error))
         self._attempt = time.monotonic() + self._pause
         self._pause = min(2 * self._pause, MOST_PAUSE)

@@ -1,45 +1,36 @@
 """A log of a Redis server."""
 
 import contextlib
-import shutil
-import socket
-import subprocess
+import os
 import time
 import unittest
+from unittest.mock import patch
 
 from cases import NEW, YOUNG, Case, version
+from log_servers import RedisServer, is_here
 from npss_registry import LogAway, LogBroken, Registry, StoreError
-from npss_registry.logs import open_log
+from npss_registry.errors import LogUnsafe
+from npss_registry.health import Health
+from npss_registry.logs import open_log, record_at
 from npss_registry.records import Forget, Setup, spelled
+from npss_registry.watch import Watch
+
+# What lets a server lose records that it answered, setting by setting.
+UNSAFE = {"appendonly": "no", "appendfsync": "everysec", "no-appendfsync-on-rewrite": "yes", "maxmemory-policy": "allkeys-lru"}
 
 
-@unittest.skipUnless(shutil.which("redis-server"), "redis-server is not here")
+@unittest.skipUnless(is_here("redis"), "redis-server or python3-redis is not here")
 class Redis(Case):
     """A log of a Redis server."""
 
-    def setUp(self):
-        super().setUp()
-        try:
-            import redis  # noqa: F401
-        except ImportError:
-            self.skipTest("python3-redis is not here")
-
-    def server(self, *words):
-        with socket.create_server(("127.0.0.1", 0)) as free:
-            port = free.getsockname()[1]
-        self.process = process = subprocess.Popen(["redis-server", "--port", str(port), "--bind", "127.0.0.1", "--dir", str(self.folder), "--save", "", *words],
-                                   stdout=subprocess.DEVNULL)
-        self.addCleanup(process.wait)
-        self.addCleanup(process.kill)
-        for _ in range(200):
-            with contextlib.suppress(OSError):
-                socket.create_connection(("127.0.0.1", port)).close()
-                break
-            time.sleep(0.05)
-        return f"redis://127.0.0.1:{port}/0#tests"
+    def server(self, **settings):
+        self.redis = RedisServer(self.folder, **settings)
+        self.addCleanup(self.redis.close)
+        self.log = self.redis.log
+        return self.redis
 
     def test_claims_through_a_server(self):
-        self.log = self.server("--appendonly", "yes", "--appendfsync", "always")
+        self.server()
         one, other = self.node("one", setup=Setup("nfc", 9, 3, False)), self.node("other", NEW, Setup("nfc", 9, 3, False))
         self.assertEqual(one.claim("a\u0302", "x").what, "registered")
         self.assertEqual(other.claim("\u00e2", "y").what, "taken")
@@ -53,11 +44,10 @@ class Redis(Case):
         self.assertEqual(self.judged(one.store.path, other.store.path), [])
 
     def test_a_server_that_is_away(self):
-        self.log = self.server("--appendonly", "yes", "--appendfsync", "always")
+        server = self.server()
         node = self.node("one")
         node.claim("a", "x")
-        self.process.kill()
-        self.process.wait()
+        server.kill()
         self.assertRaises(LogAway, node.claim, "A", "x")
         self.assertIsNone(node.status()[0].last)
         # What stands in the store is found all the same.
@@ -66,21 +56,118 @@ class Redis(Case):
         self.assertRaises(LogAway, Registry, node.store.path)
 
     def test_a_server_that_refuses_is_away(self):
-        self.log = self.server("--appendonly", "yes", "--appendfsync", "always")
+        server = self.server()
         node = self.node("one")
         self.assertEqual(node.claim("a", "x").what, "registered")
         for most, check in (("1", lambda: self.assertRaises(LogAway, node.claim, "A", "x")),
                             ("0", lambda: self.assertEqual(node.claim("A", "x").what, "registered"))):
-            node.log._server.config_set("maxmemory", most)
+            server.set(maxmemory=most)
             check()
 
     def test_an_entry_that_no_node_wrote_stops_the_node(self):
-        self.log = self.server("--appendonly", "yes", "--appendfsync", "always")
+        server = self.server()
         node, other = self.node("one"), self.node("other")
-        node.log._server.xadd("tests:0", {"another": "x"}, id="0-*")
+        server.client().xadd("tests:0", {"another": "x"}, id="0-*")
         self.assertRaisesRegex(LogBroken, "at place 2", node.catch_up)
-        node.log._server.xadd("tests:0", {"record": spelled(Forget("a", 1))}, id="7-3")
+        server.client().xadd("tests:0", {"record": spelled(Forget("a", 1))}, id="7-3")
         self.assertRaisesRegex(LogBroken, "7-3", other.catch_up)
 
-    def test_a_server_that_loses_what_it_was_told_is_refused(self):
-        self.assertRaisesRegex(StoreError, "appendfsync", open_log, self.server())
+
+@unittest.skipUnless(is_here("redis"), "redis-server or python3-redis is not here")
+class RedisSettings(Case):
+    """A Redis server that may lose what it answered isn't used, at first or later."""
+
+    def server(self, **settings):
+        self.redis = RedisServer(self.folder, **settings)
+        self.addCleanup(self.redis.close)
+        return self.redis
+
+    def test_each_setting_is_looked_at_where_a_log_is_opened(self):
+        server = self.server()
+        for name, value in UNSAFE.items():
+            before = server.client().config_get(name)[name]
+            server.set(**{name: value})
+            for how in ("make", "use", "read"):
+                self.assertRaisesRegex(LogUnsafe, f"loses what it was told last: set {name} {before}", open_log, server.log, how)
+            server.set(**{name: before})
+        open_log(server.log, "make").close()
+
+    def test_a_server_that_was_started_unsafe_is_refused(self):
+        self.assertRaisesRegex(StoreError, "appendfsync always", open_log, self.server(appendfsync="no").log, "make")
+
+    def test_each_setting_is_looked_at_while_a_log_is_used(self):
+        server = self.server()
+        log = open_log(server.log, "make")
+        self.addCleanup(log.close)
+        log.begin([(0, b"first")])
+        for name, value in UNSAFE.items():
+            before = server.client().config_get(name)[name]
+            server.set(**{name: value})
+            for _ in range(2):
+                self.assertRaisesRegex(LogAway, f"set {name} {before}", log.append, [(0, b"lost perhaps")])
+            server.set(**{name: before})
+            place, = log.append([(0, name.encode())])
+            self.assertEqual(record_at(log, 0, place), name.encode())
+
+    def test_a_server_that_comes_back_unsafe_is_away_until_it_is_mended(self):
+        server = self.server()
+        log = open_log(server.log, "make")
+        self.addCleanup(log.close)
+        log.append([(0, b"before")])
+        server.kill()
+        server.start(appendfsync="no")
+        for ask in (lambda: log.append([(0, b"lost perhaps")]), lambda: log.read(0, 0, 9), lambda: log.lasts(1), lambda: log.news([1], 1)):
+            self.assertRaisesRegex(LogAway, "set appendfsync always", ask)
+        server.set(appendfsync="always")
+        place, = log.append([(0, b"behind")])
+        self.assertEqual(log.read(0, 0, 9), [(1, b"before"), (place, b"behind")])
+
+    def test_who_waits_for_news_waits_for_a_safe_server(self):
+        server, told, health = self.server(), [], Health()
+        server.set(appendfsync="no")
+        with self.assertLogs("npss_registry", "INFO") as logs:
+            watch = Watch(server.log, 1, health, told.append)
+            watch.start()
+            self.addCleanup(watch.stop)
+            self.until(lambda: health.log.why)
+            self.assertEqual(told, [])
+            server.set(appendfsync="always")
+            self.until(lambda: told)
+        self.assertEqual((told[0], health.log.why), ([0], None))
+        self.assertRegex("\n".join(logs.output), "(?s)the log is away: .*appendfsync always.*the log is back")
+
+    def until(self, true, seconds=15):
+        end = time.monotonic() + seconds
+        while not true():
+            self.assertLess(time.monotonic(), end)
+            time.sleep(0.02)
+
+    def test_a_server_that_does_not_tell_its_settings_is_refused(self):
+        server = self.server()
+        client = server.client()
+        client.acl_setuser("alice", enabled=True, passwords=["+secret"], keys=["*"], commands=["+@all", "-config"])
+        with patch.dict(os.environ, {"NPSS_LOG_PASSWORD": "secret"}):
+            self.assertRaisesRegex(LogUnsafe, "doesn't tell how it writes", open_log, server.log.replace("redis://", "redis://alice@"), "make")
+
+    def test_an_earlier_version_is_refused(self):
+        from npss_registry.logs import redis_log
+
+        server = self.server()
+        told = server.client().info("server")["redis_version"]
+        with patch.object(redis_log, "LEAST_VERSION", int(told.partition(".")[0]) + 1), self.assertRaisesRegex(LogUnsafe, f"is of version {told}"):
+            open_log(server.log, "make")
+
+    def test_a_server_goes_on_over_one_that_is_mended(self):
+        """What is asked meanwhile isn't lost, and the node stays the one it was."""
+        server = self.server()
+        self.log = server.log
+        node = self.node("one")
+        self.assertEqual(node.claim("a", "x").what, "registered")
+        server.kill()
+        server.start(appendfsync="no")
+        self.assertRaises(LogAway, node.claim, "A", "x")
+        server.set(appendfsync="always")
+        self.assertEqual(node.claim("A", "x").what, "registered")
+        with contextlib.suppress(LogAway):
+            node.claim("i", "x")
+        self.assertEqual(self.judged(node.store.path), [])

@@ -6,7 +6,6 @@ import importlib.util
 import json
 import os
 import re
-import shutil
 import signal
 import socket
 import subprocess
@@ -17,6 +16,8 @@ import unittest
 import urllib.parse
 
 from cases import Case
+from log_servers import RedisServer as RedisServer
+from log_servers import is_here
 
 TOKEN, OTHER, READING = "token-of-the-tests", "another-token-of-them", "a-token-that-reads-alone"
 # What the server stands on.
@@ -136,32 +137,6 @@ def read_all(made, seconds=20):
     return told
 
 
-class RedisServer:
-    """A Redis server that writes each record to its disk."""
-
-    def __init__(self, folder, port=0):
-        self.folder = folder
-        with socket.create_server(("127.0.0.1", port)) as free:
-            self.port = free.getsockname()[1]
-        self.log = f"redis://127.0.0.1:{self.port}/0#tests"
-        self.start()
-
-    def start(self):
-        self.process = subprocess.Popen(["redis-server", "--port", str(self.port), "--bind", "127.0.0.1", "--dir", str(self.folder), "--save", "",
-                                         "--appendonly", "yes", "--appendfsync", "always"], stdout=subprocess.DEVNULL)
-        for _ in range(200):
-            with contextlib.suppress(OSError):
-                socket.create_connection(("127.0.0.1", self.port)).close()
-                return
-            time.sleep(0.05)
-
-    def kill(self):
-        self.process.send_signal(signal.SIGCONT)
-        self.process.kill()
-        self.process.wait()
-
-
 def with_redis(test):
     """A test that wants a Redis server."""
-    here = importlib.util.find_spec("redis") and shutil.which("redis-server")
-    return unittest.skipUnless(here, "python3-redis or redis-server is not here")(test)
+    return unittest.skipUnless(is_here("redis"), "python3-redis or redis-server is not here")(test)

@@ -80,7 +80,7 @@ class Setups(Case):
         self.assertRaisesRegex(StoreError, f"no log at {self.log}", Registry, path)
 
     def test_a_log_of_no_scheme(self):
-        for name in ("http://h/0", "postgres:///names", "file:///log"):
+        for name in ("http://h/0", "mysql:///names", "file:///log"):
             self.assertRaisesRegex(UnknownScheme, "redis://", open_log, name, "make")
             for words in (("init", str(self.folder / "one"), *OLD), ("relog", str(self.folder / "one"))):
                 with self.assertRaises(SystemExit) as caught:

@@ -10,7 +10,7 @@ import threading
 import time
 from pathlib import Path
 
-from cases import YOUNG
+from cases import NEW, YOUNG, version
 from npss_registry import Registry
 from serving import OTHER, TOKEN, RedisServer, Server, ServingCase, claim, with_redis
 
@@ -131,6 +131,26 @@ class Telling(ServingCase):
             self.assertNotIn(secret, told)
         for words in ("serves ", "version 1 of Unicode", "has ended", "1 Bad Request", "1 Unauthorized"):
             self.assertIn(words, told)
+
+    def test_an_upgrade_is_told_where_the_store_is_served_next(self):
+        path = self.store("store")
+        server = self.serve(path)
+        self.assertTrue(server.port)
+        self.assertEqual(server.end(), 0)
+        registry = Registry(path)
+        before = registry.tables.count
+        registry.upgrade(version(NEW))
+        after = registry.tables.count
+        registry.close()
+        Registry(path).close()  # as `status` does, of which nobody is told
+        line = f"^<6>upgraded from version 1 of Unicode in this store, which assigns {before} code points, to version 2, which assigns {after}$"
+        server = self.serve(path, journal=True)
+        server.told(line)
+        self.assertEqual(server.end(), 0)
+        server = self.serve(path, journal=True)
+        self.assertTrue(server.port)
+        self.assertEqual(server.end(), 0)
+        self.assertNotIn("upgraded", "\n".join(server.lines))
 
     def test_what_keeps_a_service_from_starting_is_an_error(self):
         with socket.create_server(("127.0.0.1", 0)) as taken:

@@ -1,29 +1,24 @@
--- A report of a replay mirrors the machine's run.
-use Rattle.std.specs.Prelude.{◌≡◌, ℕ, List}
-use Rattle.std.specs.declared.vec.Vec.{Vec}
-use Rattle.std.specs.declared.alloc.Global.{Global}
+-- What a replay did is a history.
+use Rattle.std.specs.Prelude.{ℕ, List}
 use Rattle.np_code_points.specs.declared.forms.Form.{Form}
+use Rattle.np_schedules.specs.Events.{Event, ScheduleData}
 use Rattle.np_versions.specs.Versions.{VersionData}
-use Rattle.np_schedules.specs.Events.{ScheduleData}
+use Rattle.np_world.specs.Histories.{IsHistory}
+use Rattle.np_world.specs.Moments.{Rules, AreRules, Moment, IsStart}
 use Rattle.np_world.specs.Reports.{ReportData}
-use Rattle.np_world.specs.declared.replay_nodes.ReplayNode.{ReplayNode}
 use Rattle.np_world.specs.declared.replies.Reply.{Reply}
-use Rattle.np_world.specs.inside.Mirrors.{Rules, AreRules}
-use Rattle.np_world.specs.inside.ReportViews.{report_of}
-use Rattle.np_world.specs.inside.Worlds.{EndsRun}
+
+-- a history from new nodes on
+pub record IsPlayed {T : Type 0} (model : T → VersionData) (rules : Rules T) (places : List ℕ) (events : List Event) (replies : List Reply) (last : Moment T) : Type 0 where
+  pub rules_hold : AreRules model rules
+  pub first : Moment T
+  pub begins : IsStart rules places first
+  pub history : IsHistory model rules first events replies last
 
 abbrev pub rules_over : {T : Type 0} → List T → Form → ScheduleData → Rules T
 rules_over tables form schedule = record { tables = tables; form = form; room = schedule.room }
 
--- the replies, the messages and the nodes mirror the machine's run
-pub record IsPlayedBy {T : Type 0} (model : T → VersionData) (tables : List T) (form : Form) (schedule : ScheduleData)
-    (replies : List Reply) (told : List (Vec ℕ Global)) (replay_nodes : List (ReplayNode T)) : Type 0 where
-  pub rules_hold : AreRules model (rules_over tables form schedule)
-  pub ends : EndsRun model (rules_over tables form schedule) schedule.starts schedule.events replies replay_nodes told
-
-pub record IsPlayed {T : Type 0} (model : T → VersionData) (tables : List T) (form : Form) (schedule : ScheduleData) (report : ReportData T) : Type 0 where
-  pub replies : List Reply
-  pub told : List (Vec ℕ Global)
-  pub replay_nodes : List (ReplayNode T)
-  pub report_is : report ≡ report_of replies told replay_nodes
-  pub by : IsPlayedBy model tables form schedule replies told replay_nodes
+-- the replies, messages and nodes of a report are those of a history with the events of a schedule
+abbrev pub IsReplayed : {T : Type 0} → (T → VersionData) → List T → Form → ScheduleData → ReportData T → Type 0
+IsReplayed model tables form schedule report =
+    IsPlayed model (rules_over tables form schedule) schedule.starts schedule.events report.replies (record { nodes = report.nodes; sent = report.sent })

@@ -1,30 +1,32 @@
-use Rattle.std.proofs.Common.{subst}
-use Rattle.np_node.specs.Restoring.{AnswersRestore, IsRestored, IsRestoreFault}
-use Rattle.np_world.specs.inside.Mirrors.{rules_of}
-use Rattle.np_world.proofs.RestartLemmas.{begins-empty, begins-saved, refuses}
+use Rattle.std.proofs.Common.{Ok, Option, ap, subst, sym}
+use Rattle.std.specs.Option.{option_map}
+use Rattle.std.specs.declared.vec.Vec.{Vec}
+use Rattle.std.specs.declared.alloc.Global.{Global}
+use Rattle.std.specs.Prelude.{ℕ}
+use Rattle.np_node.specs.Restoring.{AnswersRestore}
+use Rattle.np_world.specs.Calls.{AnswersAgain}
+use Rattle.np_world.specs.inside.Views.{bytes_in, rules_of}
 use Rattle.np_world.proofs.node_steps.begun_again.Goals as goal
 
-pub returns-in_default-clause-begins : goal.returns-in_default-clause-begins
-returns-in_default-clause-begins g c =
-    let model = g.T.NormTable.model in
-    begins-empty model (rules_of c.args.common.now) c.args.replay_node.now c.args.place c.at-table.result.now c.at-table.ensures.table c.requires.ready.rules_hold
-    _ c.at-table.ensures.stands c.in_default.is c.new.ensures
-
-pub returns-in-Ok-clause-begins : goal.returns-in-Ok-clause-begins
-returns-in-Ok-clause-begins g c =
+pub returns-in_default : goal.returns-in_default
+returns-in_default g c =
     let model = g.T.NormTable.model in
     let rules = rules_of c.args.common.now in
-    let restored = subst (λ r. AnswersRestore model c.at-table.result.now rules.form rules.room c.as_slice.result.now r) c.in-Ok.is c.restore.ensures in
-    let bytes = subst (λ l. IsRestored model c.at-table.result.now rules.form rules.room l c.in-Ok.node) c.as_slice.ensures.value restored in
-    begins-saved model rules c.args.replay_node.now c.args.place c.at-table.result.now c.at-table.ensures.table c.requires.ready.rules_hold
-    c.saved.ensures.saved c.images.ensures.one c.in-Some.image c.in-Some.is c.in-Ok.node c.at-table.ensures.stands bytes
+    let t = c.at-table.result.now in
+    record {
+      table = t;
+      here = c.at-table.ensures.table;
+      answers = subst (λ (i : Option (Vec ℕ Global)). AnswersAgain model rules t (option_map bytes_in i) (Ok c.new.result)) (sym c.in_default.is) (ap Ok c.new.ensures);
+    }
 
-pub returns-in-Err-clause-refused : goal.returns-in-Err-clause-refused
-returns-in-Err-clause-refused g c =
+pub returns : goal.returns
+returns g c =
     let model = g.T.NormTable.model in
     let rules = rules_of c.args.common.now in
-    let refused = subst (λ r. AnswersRestore model c.at-table.result.now rules.form rules.room c.as_slice.result.now r) c.in-Err.is c.restore.ensures in
-    let bytes = subst (λ l. IsRestoreFault (model c.at-table.result.now) rules.form rules.room l c.in-Err.refused.entry c.in-Err.refused.fault) c.as_slice.ensures.value refused in
-    refuses model rules c.args.replay_node.now c.args.place c.at-table.result.now c.at-table.ensures.table c.requires.ready.rules_hold
-    c.saved.ensures.saved c.images.ensures.one c.in-Some.image c.in-Some.is c.requires.ready.twin c.requires.ready.mirrors c.images.ensures.fault
-    c.in-Err.refused.entry c.in-Err.refused.fault bytes
+    let t = c.at-table.result.now in
+    record {
+      table = t;
+      here = c.at-table.ensures.table;
+      answers = subst (λ (i : Option (Vec ℕ Global)). AnswersAgain model rules t (option_map bytes_in i) c.restore.result) (sym c.in-Some.is)
+          (subst (λ l. AnswersRestore model t rules.form rules.room l c.restore.result) c.as_slice.ensures.value c.restore.ensures);
+    }

@@ -1,19 +1,24 @@
-use Rattle.std.proofs.Common.{Ok, ap, refl, ◌∙◌}
-use Rattle.np_world.specs.inside.Mirrors.{rules_of}
-use Rattle.np_world.proofs.ForgeLemmas.{forges}
+use Rattle.std.proofs.Common.{Ok, ap, refl, sym, ◌∙◌}
+use Rattle.np_world.specs.Told.{reply_to}
+use Rattle.np_world.specs.declared.replies.Reply.TheVariants.{Kept}
+use Rattle.np_world.specs.inside.Views.{stage_of}
+use Rattle.np_world.proofs.DoneLemmas.{takes}
 use Rattle.np_world.proofs.node_steps.forge.Goals as goal
 
-pub returns-in-Ok-Known-clause-node_step : goal.returns-in-Ok-Known-clause-node_step
-returns-in-Ok-Known-clause-node_step g c = λ messages.
+pub returns-in-Ok-Known : goal.returns-in-Ok-Known
+returns-in-Ok-Known g c = λ sent.
     let old = c.args.replay_node.now in
-    forges g.T.NormTable.model (rules_of c.args.common.now) old (record old { node = c.take.new.self }) c.args.bytes.now messages c.messages.ensures.one refl refl (c.in-Ok-Known.is ∙ ap Ok c.in-Ok-Known.field-0-is) refl c.take.ensures.answer c.take.ensures.node
+    takes g.T.NormTable.model c.args.bytes.now (stage_of old sent) (stage_of (record old { node = c.take.new.self }) sent) _ c.take.result c.take.ensures.answer c.take.ensures.node
+    (record { index = refl; image = refl }) refl (λ reply is. ap (reply_to Kept) (c.in-Ok-Known.is ∙ ap Ok c.in-Ok-Known.field-0-is) ∙ is)
 
-pub returns-in-Ok-Kept-clause-node_step : goal.returns-in-Ok-Kept-clause-node_step
-returns-in-Ok-Kept-clause-node_step g c = λ messages.
+pub returns-in-Ok-Kept : goal.returns-in-Ok-Kept
+returns-in-Ok-Kept g c = λ sent.
     let old = c.args.replay_node.now in
-    forges g.T.NormTable.model (rules_of c.args.common.now) old (record old { node = c.take.new.self }) c.args.bytes.now messages c.messages.ensures.one refl refl (c.in-Ok-Kept.is ∙ ap Ok c.in-Ok-Kept.field-0-is) refl c.take.ensures.answer c.take.ensures.node
+    takes g.T.NormTable.model c.args.bytes.now (stage_of old sent) (stage_of (record old { node = c.take.new.self }) sent) _ c.take.result c.take.ensures.answer c.take.ensures.node
+    (record { index = refl; image = refl }) refl (λ reply is. ap (reply_to Kept) (c.in-Ok-Kept.is ∙ ap Ok c.in-Ok-Kept.field-0-is) ∙ is)
 
-pub returns-in-Err-clause-node_step : goal.returns-in-Err-clause-node_step
-returns-in-Err-clause-node_step g c = λ messages.
+pub returns-in-Err : goal.returns-in-Err
+returns-in-Err g c = λ sent.
     let old = c.args.replay_node.now in
-    forges g.T.NormTable.model (rules_of c.args.common.now) old (record old { node = c.take.new.self }) c.args.bytes.now messages c.messages.ensures.one refl refl c.in-Err.is c.refusal.ensures c.take.ensures.answer c.take.ensures.node
+    takes g.T.NormTable.model c.args.bytes.now (stage_of old sent) (stage_of (record old { node = c.take.new.self }) sent) _ c.take.result c.take.ensures.answer c.take.ensures.node
+    (record { index = refl; image = refl }) refl (λ reply is. ap (reply_to Kept) c.in-Err.is ∙ sym c.refusal.ensures ∙ is)

@@ -1,12 +1,12 @@
 use Rattle.std.proofs.Common.{◌≡◌, ◌<◌, ℕ, List, Some, length, get_or, map, slice_get, option_map, option_and_then, refl, sym, ap, ◌∙◌}
 use Rattle.std.proofs.lemmas.Option.{slice_get-map, slice_get_read}
 use Rattle.np_world.specs.declared.replay_nodes.ReplayNode.{ReplayNode}
-use Rattle.np_world.specs.inside.ReportViews.{bytes_in, end_of}
+use Rattle.np_world.specs.inside.Views.{bytes_in, placed_of}
 use Rattle.np_world.proofs.report.Report.saved.Goals as goal
 
 at_place : {T : Type 0} (replay_nodes : List (ReplayNode T)) (k : ℕ) (m : ReplayNode T) → k < length replay_nodes → m ≡ get_or replay_nodes k m
-    → option_and_then (λ n. n.image) (slice_get (map end_of replay_nodes) k) ≡ option_map bytes_in m.image
-at_place replay_nodes k m within is = rw (slice_get-map end_of replay_nodes k, slice_get_read replay_nodes (length replay_nodes) k m refl within is) refl
+    → option_and_then (λ n. n.image) (slice_get (map placed_of replay_nodes) k) ≡ option_map bytes_in m.image
+at_place replay_nodes k m within is = rw (slice_get-map placed_of replay_nodes k, slice_get_read replay_nodes (length replay_nodes) k m refl within is) refl
 
 pub returns-in-Some : goal.returns-in-Some
 returns-in-Some g c =

@@ -1,6 +1,6 @@
 use Rattle.std.proofs.Common.{Some, ap, refl}
 use Rattle.std.proofs.lemmas.Option.{slice_get-map, slice_get_past, slice_get_read}
-use Rattle.np_world.specs.inside.ReportViews.{bytes_in}
+use Rattle.np_world.specs.inside.Views.{bytes_in}
 use Rattle.np_world.proofs.report.Report.sent.Goals as goal
 
 pub returns-in-Some : goal.returns-in-Some
