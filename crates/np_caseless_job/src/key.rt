@@ -1,5 +1,6 @@
 //! The command `key`: caseless keys.
-ghost use Rattle.std.specs.Prelude.{◌≡◌, IfOk, IfErr, string_bytes, true};
+ghost use Rattle.std.specs.Prelude.{◌≡◌, IfOk, IfErr, chars, string_bytes, true};
+ghost use Rattle.np_caseless.specs.Caseless.{IsCaseless};
 ghost use Rattle.np_caseless_job.specs.CaselessKeys.{IsCaselessOutput, LacksCaselessOutput};
 
 use crate::texts::FoldedMaker;
@@ -18,6 +19,7 @@ pub(crate) fn key_of<T: NormTable + Drop>(
     text: &str,
 ) -> Result<String, TextFault>
     ensures key { IfOk result (λ key. IsCaselessOutput form table.now text.now true (string_bytes key)) }
+    ensures caseless { IfOk result (λ key. IsCaseless table.now form (chars text.now) (chars (string_bytes key))) }
     ensures refused { IfErr result (LacksCaselessOutput table.now text.now) }
 {
     match caseless_key(alloc, table.table(), table.foldings(), form, text) {

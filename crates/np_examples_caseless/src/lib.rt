@@ -17,6 +17,8 @@ mod folding_files;
 #[cfg(test)]
 mod foldings;
 #[cfg(test)]
+mod jobs;
+#[cfg(test)]
 mod key_rows;
 #[cfg(test)]
 mod keys;

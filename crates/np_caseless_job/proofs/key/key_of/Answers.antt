@@ -12,3 +12,6 @@ returns-in-Ok-clause-key g c =
       bytes_are = sym (encodes-chars (string_bytes key) (IsUtf8-string_bytes key));
       done = refl;
     }
+
+pub returns-in-Ok-clause-caseless : goal.returns-in-Ok-clause-caseless
+returns-in-Ok-clause-caseless g c = rw (← c.table.ensures, ← c.foldings.ensures) c.in-Ok.ensures.key
