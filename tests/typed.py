@@ -1,8 +1,8 @@
 """The blocks of the pages, typed as they stand by a reader of a bare Debian, and what each of them has to print.
 
 A block says what it is: `sh` is typed; `console` is typed line by line, and prints what stands below each line; `text` has
-words of the reader's own in it, in capitals or as hosts below .example, and isn't typed. Programs and SQL run by what the page
-tells to run them.
+words of the reader's own in it, in capitals or as hosts below .example, and isn't typed, nor is `conf`, the settings of a
+file. Programs and SQL run by what the page tells to run them.
 """
 
 import re

@@ -9,6 +9,7 @@ complete -c npss-registry -n __fish_use_subcommand -f -a list -d 'the registered
 complete -c npss-registry -n __fish_use_subcommand -f -a status -d 'how far each shard was read'
 complete -c npss-registry -n __fish_use_subcommand -f -a upgrade -d 'go over to a later version of Unicode'
 complete -c npss-registry -n __fish_use_subcommand -f -a backup -d 'copy the store'
+complete -c npss-registry -n __fish_use_subcommand -f -a log -d 'how the log is named, or another name of it'
 complete -c npss-registry -n __fish_use_subcommand -f -a relog -d 'bring stores over to another log'
 complete -c npss-registry -n __fish_use_subcommand -f -a serve -d 'JSON over HTTP, and pages'
 complete -c npss-registry -n __fish_use_subcommand -f -a check -d 'have npss replay judge what stores did'
