@@ -2,17 +2,15 @@
 use Rattle.std.proofs.Common.{◌≡◌, ◌↔◌, ◌≤◌, ◌∙◌, ℕ, true, false, List, Option, Some, length, is_some, ap, arith, inl, inr, sym, subst}
 use Rattle.std.proofs.lemmas.Bool.{false≢true}
 use Rattle.np_code_points.specs.Inputs.{IsReadWhole}
-use Rattle.np_code_points.specs.Watched.{device_of, has_failed}
-use Rattle.np_code_points.specs.declared.channels.watched.Watched.{Watched}
 use Rattle.np_ucd.specs.Faults.{line_of}
 use Rattle.np_ucd.specs.FirstFaults.{IsFirstFault}
 use Rattle.np_ucd.specs.Reading.{IsRefused}
 use Rattle.np_ucd.specs.declared.faults.UcdFault.{UcdFault}
 use Rattle.np_ucd.specs.declared.faults.UcdFault.TheVariants.{FieldCount, BadCode, OutOfOrder, BadCategory, BadClass, BadMapping, RangeOpen, RangeLone, RangeDiffers, RangeMaps, TooLarge, ReadFailed, Memory}
 use Rattle.np_jobs.proofs.EndLemmas.{same_stream, untouched}
-use Rattle.np_jobs.specs.Streams.{Stream, IsUntouched, WasRead, stream_of}
+use Rattle.np_jobs.specs.Streams.{Stream, WasRead, stream_of}
 use Rattle.np_jobs.specs.Versions.{WasRefused}
-use Rattle.np_caseless_job.specs.FoldedVersions.{AreUnread, FoldedReaders, folded_readers_of}
+use Rattle.np_caseless_job.specs.FoldedVersions.{AreUnread, folded_readers_of}
 use Rattle.np_caseless_job.specs.declared.files.OpenFiles.{OpenFiles}
 use Rattle.np_caseless_job.specs.inside.FoldingSteps.{IsFaultIn}
 use Rattle.np_caseless_job.specs.inside.PairSteps.{AreCleared}

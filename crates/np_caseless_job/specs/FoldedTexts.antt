@@ -1,5 +1,5 @@
 -- How a job on one text under a version with its foldings is refused, and what it makes.
-use Rattle.std.specs.Prelude.{◌≡◌, ◌⊎◌, ◌++◌, ◌∷◌, [], ℕ, Bool, List, Option, map}
+use Rattle.std.specs.Prelude.{◌≡◌, ◌⊎◌, ◌++◌, ◌∷◌, [], ℕ, Bool, List, Option}
 use Rattle.np_caseless.specs.Folded.{FoldedVersion}
 use Rattle.np_jobs.specs.Ends.{JobEndsBy}
 use Rattle.np_jobs.specs.Opening.{WereOpened, both_files}

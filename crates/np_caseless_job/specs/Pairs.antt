@@ -2,7 +2,6 @@
 use Rattle.std.specs.Prelude.{◌⊎◌, ◌++◌, ℕ, List, Option}
 use Rattle.np_caseless.specs.Folded.{FoldedVersion}
 use Rattle.np_jobs.specs.Opening.{WereOpened}
-use Rattle.np_jobs.specs.Wraps.{Wraps}
 use Rattle.np_words.specs.CaselessWords.{folded_names_of}
 use Rattle.np_words.specs.declared.files.FoldedFiles.{FoldedFiles}
 use Rattle.np_caseless_job.specs.FoldedTexts.{three_files}

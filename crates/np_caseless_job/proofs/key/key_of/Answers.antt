@@ -1,4 +1,4 @@
-use Rattle.std.proofs.Common.{chars, string_bytes, refl, subst, sym}
+use Rattle.std.proofs.Common.{chars, string_bytes, refl, sym}
 use Rattle.std.proofs.lemmas.Str.{encodes-chars, IsUtf8-string_bytes}
 use Rattle.np_caseless_job.proofs.key.key_of.Goals as goal
 

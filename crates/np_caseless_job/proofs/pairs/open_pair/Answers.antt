@@ -1,4 +1,4 @@
-use Rattle.std.proofs.Common.{[], ◌∷◌, ◌++◌, ap, append-nil, refl, sym}
+use Rattle.std.proofs.Common.{[], ◌++◌, ap, append-nil, refl, sym}
 use Rattle.std.proofs.lemmas.Result.{err_from_is_err_and}
 use Rattle.np_jobs.proofs.OpeningLemmas.{all_zip-append, unopened_among}
 use Rattle.np_words.specs.CaselessWords.{folded_names_of}
