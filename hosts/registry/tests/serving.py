@@ -43,7 +43,7 @@ class Server:
         for line in self._output:
             self.lines.append(line.rstrip("\n"))
 
-    def told(self, pattern, seconds=15, count=1):
+    def told(self, pattern, seconds=60, count=1):
         """The first match of a pattern in a line, which is waited for."""
         end = time.monotonic() + seconds
         while time.monotonic() < end:
