@@ -9,7 +9,7 @@ LOGGER = logging.getLogger("npss_registry")
 
 
 class Trouble:
-    """Something that comes and goes. Threads may tell it at once."""
+    """Something that comes and goes. Threads may tell it at once; who reads its line finds it so."""
 
     def __init__(self, begun: str, over: str):
         self._begun, self._over = begun, over
@@ -20,17 +20,17 @@ class Trouble:
     def begin(self, why: str) -> None:
         """It is there, for a reason."""
         with self._lock:
-            if self.why is None:
+            before, self.why = self.why, why
+            if before is None:
                 self._since = time.monotonic()
                 LOGGER.warning("%s: %s", self._begun, why)
-            self.why = why
 
     def end(self) -> None:
         """It isn't there."""
         with self._lock:
-            if self.why is not None:
+            before, self.why = self.why, None
+            if before is not None:
                 LOGGER.info("%s after %.1f s", self._over, time.monotonic() - self._since)
-                self.why = None
 
 
 class Health:

@@ -267,13 +267,14 @@ class Worker:
         """Answers with what work comes to."""
         try:
             outcomes = work()
+            # Who is answered finds the health so.
+            if any(isinstance(outcome, Outcome) and (outcome.new or outcome.what == "forgotten") for outcome in outcomes):
+                self._health.records.end()
             for one, outcome in zip(asked, outcomes):
                 if isinstance(outcome, Refused):
                     one.answer.set_exception(outcome)
                 else:
                     one.answer.set_result(outcome)
-            if any(isinstance(outcome, Outcome) and (outcome.new or outcome.what == "forgotten") for outcome in outcomes):
-                self._health.records.end()
         except LogAway as error:
             self._failed = time.monotonic(), error
             self._health.records.begin(str(error))

@@ -204,9 +204,9 @@ class Logs(ServingCase):
             self.assertFalse(self.ask(server, "/health", None, None)[1]["claims"])
             base.execute("ROLLBACK")
         self.assertEqual(self.ask(server, "/claim", claim("a"))[0], 201)
+        self.assertTrue(self.ask(server, "/health", None, None)[1]["claims"])
         server.told("warning: the log takes no records: .*locked")
         server.told("the log takes records again after ")
-        self.assertTrue(self.ask(server, "/health", None, None)[1]["claims"])
 
     def test_a_server_stops_where_the_log_is_broken(self):
         server = self.serve()

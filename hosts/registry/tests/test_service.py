@@ -9,9 +9,11 @@ import sqlite3
 import threading
 import time
 from pathlib import Path
+from unittest import mock
 
 from cases import NEW, YOUNG, version
 from npss_registry import Registry
+from npss_registry.health import LOGGER, Trouble
 from serving import OTHER, TOKEN, RedisServer, Server, ServingCase, claim, with_redis
 
 
@@ -131,6 +133,14 @@ class Telling(ServingCase):
             self.assertNotIn(secret, told)
         for words in ("serves ", "version 1 of Unicode", "has ended", "1 Bad Request", "1 Unauthorized"):
             self.assertIn(words, told)
+
+    def test_who_reads_a_line_finds_it_so(self):
+        trouble = Trouble("the log is away", "the log is back")
+        found = []
+        with mock.patch.object(LOGGER, "warning", lambda *_: found.append(trouble.why)), mock.patch.object(LOGGER, "info", lambda *_: found.append(trouble.why)):
+            for tell in (lambda: trouble.begin("no log"), lambda: trouble.begin("still none"), trouble.end, trouble.end):
+                tell()
+        self.assertEqual(found, ["no log", None])
 
     def test_an_upgrade_is_told_where_the_store_is_served_next(self):
         path = self.store("store")
