@@ -63,9 +63,11 @@ enum npss_status {
     NPSS_EXCLUSIONS = 8,
     /* The tables have the fault `fault` at the code point `code`: an `npss_table_fault`. */
     NPSS_TABLES = 9,
-    /* A file has more than 16,777,216 bytes: the data file where `fault` is 1, the exclusions where it is 2. */
+    /* A file has more than 16,777,216 bytes: the data file where `fault` is 1, the exclusions where it is 2, the folding file
+     * where it is 3. */
     NPSS_TOO_LARGE = 10,
-    /* Of a question: no. Of npss_extends, `fault` is an `npss_break`, and `code` the code point that has it. */
+    /* Of a question: no. Of npss_extends and npss_caseless_extends, `fault` is an `npss_break`, and `code` the code point that has
+     * it. */
     NPSS_DIFFERENT = 11,
     /* The byte that is to end lines is neither 10 nor 0. */
     NPSS_NO_END = 12,
@@ -96,7 +98,13 @@ enum npss_status {
     /* A node has room for at most 65,536 strings. */
     NPSS_BAD_ROOM = 22,
     /* The number is no code point. */
-    NPSS_NO_CODE = 23
+    NPSS_NO_CODE = 23,
+    /* CaseFolding.txt has the fault `fault` at line `place`: an `npss_folding_fault`. */
+    NPSS_FOLDING = 24,
+    /* The version has the fault `fault` with its foldings, at the code point `code`: an `npss_condition_fault`. */
+    NPSS_FOLDINGS = 25,
+    /* The handle was opened without CaseFolding.txt. Of npss_caseless_extends, `fault` tells which of the two was, from 1. */
+    NPSS_NO_FOLDING = 26
 };
 
 /* Faults of a file; docs/FORMATS.md tells when each comes. */
@@ -122,6 +130,25 @@ enum npss_table_fault {
     NPSS_HANGUL_WRONG = 5
 };
 
+/* Faults of a folding file; docs/FORMATS.md tells when each comes. */
+enum npss_folding_fault {
+    NPSS_FOLDING_FIELD_COUNT = 1,
+    NPSS_FOLDING_BAD_CODE = 2,
+    NPSS_FOLDING_BAD_STATUS = 3,
+    NPSS_FOLDING_OUT_OF_ORDER = 4,
+    NPSS_FOLDING_STATUS_CONFLICT = 5,
+    NPSS_FOLDING_BAD_MAPPING = 6
+};
+
+/* Faults of a version with its foldings. */
+enum npss_condition_fault {
+    NPSS_FOLDS_UNASSIGNED = 1,
+    NPSS_FOLDS_TO_UNASSIGNED = 2,
+    NPSS_FOLDS_AGAIN = 3,
+    NPSS_FOLDED_TOO_LONG = 4,
+    NPSS_NOT_FOLDED = 5
+};
+
 /* What a newer version can break of an older one, at a code point. */
 enum npss_break {
     NPSS_LOST = 1,
@@ -129,7 +156,9 @@ enum npss_break {
     NPSS_MAPPING_CHANGED = 3,
     NPSS_NOW_EXCLUDED = 4,
     NPSS_NOW_INCLUDED = 5,
-    NPSS_NEW_COMPOSITE = 6
+    NPSS_NEW_COMPOSITE = 6,
+    /* Of npss_caseless_extends alone: assigned in both, with unlike foldings. */
+    NPSS_FOLDING_CHANGED = 7
 };
 
 /* The kinds of mapping of a code point. */
@@ -141,8 +170,8 @@ enum npss_form { NPSS_NFD = 'D', NPSS_NFC = 'C', NPSS_NFKD = 'd', NPSS_NFKC = 'c
 /* How a call ended. What a status has no use for is 0. */
 typedef struct npss_answer {
     uint32_t status; /* an npss_status */
-    uint32_t fault;  /* the number of a fault, a break or a kind of mapping, which of two files or texts is meant, from 1, 1
-                      * where a line was refused, or the status of an entry's refusal */
+    uint32_t fault;  /* the number of a fault, a break or a kind of mapping, which of the files, texts or handles is meant, from
+                      * 1, 1 where a line was refused, or the status of an entry's refusal */
     uint32_t code;   /* a code point, or a combining class */
     uint64_t place;  /* a byte place from 0, a line from 1, or as NPSS_OLDER_TABLES and npss_node_entry tell */
     uint64_t length; /* bytes that were written, have no room or are ready, code points that are assigned, strings that are
@@ -155,7 +184,7 @@ typedef struct npss_handle {
     void *held;      /* none of the caller's */
 } npss_handle;
 
-/* What npss_answers is asked of each line. */
+/* What npss_answers and npss_caseless_answers are asked of each line. */
 typedef struct npss_asked {
     uint8_t form; /* an npss_form: that of the keys */
     uint8_t end;  /* the byte that ends lines and answers: 10 or 0 */
@@ -168,8 +197,15 @@ typedef struct npss_asked {
 npss_answer npss_open(npss_handle *handle, const uint8_t *data, size_t data_length,
                       const uint8_t *exclusions, size_t exclusions_length);
 
-/* Opens `other` on the version of `handle`, for another thread, and lets go of what it held: both share one table, which lives
- * as long as the longer of them. After a refusal `other` holds what it held. DONE, MEMORY, CLOSED. */
+/* The same with the bytes of CaseFolding.txt: the handle has foldings too, and makes caseless keys. Every other call takes it
+ * as ever. The first two files are judged first, then the lines of the third, then the version with its foldings: also
+ * whether the three are of one version, as docs/STANDARD.md tells. Takes 12 to 25 ms for the published files, and holds 6 MB.
+ * DONE, DATA, EXCLUSIONS, TABLES, FOLDING, FOLDINGS, TOO_LARGE, MEMORY. */
+npss_answer npss_open_caseless(npss_handle *handle, const uint8_t *data, size_t data_length, const uint8_t *exclusions,
+                               size_t exclusions_length, const uint8_t *folding, size_t folding_length);
+
+/* Opens `other` on the version of `handle`, for another thread, and lets go of what it held: both share one table and its
+ * foldings, which live as long as the longer of them. After a refusal `other` holds what it held. DONE, MEMORY, CLOSED. */
 npss_answer npss_share(npss_handle *handle, npss_handle *other);
 
 /* Writes the key of a text to the front of the room; `length` tells how many bytes it has.
@@ -182,6 +218,13 @@ npss_answer npss_key(npss_handle *handle, uint8_t form, const uint8_t *text, siz
 npss_answer npss_normalize(npss_handle *handle, uint8_t form, const uint8_t *text, size_t text_length,
                            uint8_t *room, size_t room_length);
 
+/* Writes the caseless key of a text to the front of the room; `length` tells how many bytes it has. Texts that match
+ * caselessly have one, and it stays the same under each later version that extends this one with its foldings. It is made of
+ * a text, or of its NFC or NFD key; the NFKC key may have another. `place` of UNASSIGNED counts in the text.
+ * DONE, UNASSIGNED, NOT_UTF8, NO_ROOM, MEMORY, CLOSED, NO_FORM, NO_FOLDING. */
+npss_answer npss_caseless_key(npss_handle *handle, uint8_t form, const uint8_t *text, size_t text_length,
+                              uint8_t *room, size_t room_length);
+
 /* Writes the answers to the lines of a text to the front of the room, each with the byte that ends it: `=` and the key
  * of the line, or `!` and why it has none, as docs/FORMATS.md tells. A last line without that byte is a line; an empty
  * text has none. The text needn't be UTF-8. `fault` is 1 where a line was refused, else 0; `length` tells how many bytes
@@ -189,6 +232,10 @@ npss_answer npss_normalize(npss_handle *handle, uint8_t form, const uint8_t *tex
  * DONE, NO_ROOM, MEMORY, CLOSED, NO_FORM, NO_END. */
 npss_answer npss_answers(npss_handle *handle, const npss_asked *asked, const uint8_t *text, size_t text_length,
                          uint8_t *room, size_t room_length);
+
+/* As npss_answers, of the caseless keys of lines. DONE, NO_ROOM, MEMORY, CLOSED, NO_FORM, NO_END, NO_FOLDING. */
+npss_answer npss_caseless_answers(npss_handle *handle, const npss_asked *asked, const uint8_t *text, size_t text_length,
+                                  uint8_t *room, size_t room_length);
 
 /* Whether a text is its own normal form. DONE (it is), DIFFERENT, NOT_UTF8, MEMORY, CLOSED, NO_FORM. */
 npss_answer npss_is_form(npss_handle *handle, uint8_t form, const uint8_t *text, size_t text_length);
@@ -202,9 +249,19 @@ npss_answer npss_keeps_ascii(npss_handle *handle, uint8_t form);
 npss_answer npss_equivalent(npss_handle *handle, bool compat, const uint8_t *left, size_t left_length,
                             const uint8_t *right, size_t right_length);
 
+/* Whether two texts match caselessly (The Unicode Standard, D145; where `compat`, D146), whether or not their code points are
+ * assigned. Where one is not UTF-8, `fault` is 1 or 2. DONE (they do), DIFFERENT, NOT_UTF8, MEMORY, CLOSED, NO_FOLDING. */
+npss_answer npss_caseless_match(npss_handle *handle, bool compat, const uint8_t *left, size_t left_length,
+                                const uint8_t *right, size_t right_length);
+
 /* Whether the version of `newer` extends that of `older`, so that keys under the older one stay keys. Else the break
  * at the least code point. DONE (it does), DIFFERENT, CLOSED (one of the two is). */
 npss_answer npss_extends(npss_handle *older, npss_handle *newer);
+
+/* The same of versions with their foldings, so that caseless keys under the older one stay caseless keys: what the older one
+ * assigns also folds alike. Of NO_FOLDING `fault` tells which of the two was opened without, from 1: the first of them.
+ * DONE (it does), DIFFERENT, CLOSED (one of the two is), NO_FOLDING. */
+npss_answer npss_caseless_extends(npss_handle *older, npss_handle *newer);
 
 /* How many code points the version assigns: `length`. DONE, CLOSED. */
 npss_answer npss_count(npss_handle *handle);
@@ -223,6 +280,11 @@ npss_answer npss_decomposition(npss_handle *handle, bool compat, uint32_t code, 
 /* The primary composite of two code points: `code`. A surrogate is NO_CODE.
  * DONE, DIFFERENT (there is none), NO_CODE, CLOSED. */
 npss_answer npss_composite(npss_handle *handle, uint32_t first, uint32_t second);
+
+/* Writes what a code point folds to by itself to the front of the room, as UTF-8: the code point itself where it isn't listed.
+ * `length` tells how many bytes it has. `code` of UNASSIGNED is the code point. A surrogate is NO_CODE.
+ * DONE, UNASSIGNED, NO_ROOM, NO_CODE, MEMORY, CLOSED, NO_FOLDING. */
+npss_answer npss_folding(npss_handle *handle, uint32_t code, uint8_t *room, size_t room_length);
 
 /* The first code point of a text that is not assigned. Takes no memory.
  * DONE (each is assigned), UNASSIGNED, NOT_UTF8, CLOSED. */

@@ -42,6 +42,10 @@ PLACES = (
     ("bindings/rust/Cargo.lock", r'^name = "npss"\nversion = "', str),
     ("include/npss.h", r'^#define NPSS_VERSION "', str),
     ("include/npss.h", r"^#define NPSS_VERSION_NUMBER ", number_of),
+    ("crates/np_lines_job/src/words/usage.rt", r'^    "npss_lines ', str),
+    ("crates/np_lines_job/specs/LineWords.antt", r'^lines_version = codes "npss_lines ', str),
+    ("crates/np_caseless_job/src/usage.rt", r'^    "npss_caseless ', str),
+    ("crates/np_caseless_job/specs/Usage.antt", r'^caseless_version = codes "npss_caseless ', str),
 )
 # The scripts of the extension for PostgreSQL, and the list of those that a release had.
 SQL = ROOT / "databases" / "postgresql"

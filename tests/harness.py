@@ -2,6 +2,7 @@
 
 import fcntl
 import os
+import re
 import shutil
 import subprocess
 import sys
@@ -53,6 +54,15 @@ def told(tally, name, words, **options):
     done = subprocess.run(list(map(str, words)), stdin=subprocess.DEVNULL, stdout=subprocess.PIPE, stderr=subprocess.STDOUT, text=True,
                           check=False, **options)
     return done.stdout if tally.check(name, done.returncode == 0, f"status {done.returncode}: {done.stdout[-3000:]}") else ""
+
+
+def resident(number):
+    """The peak so far of a process, in MiB: its own, since what `wait` tells counts the memory of this one too."""
+    try:
+        found = re.search(r"^VmHWM:\s*(\d+)", Path(f"/proc/{number}/status").read_text(encoding="ascii"), re.MULTILINE)
+    except FileNotFoundError:
+        return 0.0
+    return int(found[1]) / 1024 if found else 0.0
 
 
 def shown(value, limit=200):

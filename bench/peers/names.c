@@ -1,4 +1,4 @@
-// names FILE PASSES [WORDS..]: makes the NFC of each line of the file by a peer, in each of its ways.
+// names FILE PASSES FORM [WORDS..]: makes the form, `nfc` or `nfd`, of each line of the file by a peer, in each of its ways.
 // Prints a line 'version V', and for each way 'NAME NANOSECONDS SUM': the least of the passes for one name, and the FNV-1a of
 // all forms with their line ends.
 #include "names.h"
@@ -24,13 +24,13 @@ static uint64_t summed(uint64_t sum, const char *bytes, size_t length) {
 }
 
 int main(int count, char **words) {
-    FILE *file = count < 3 ? NULL : fopen(words[1], "rb");
+    FILE *file = count < 4 ? NULL : fopen(words[1], "rb");
     if (!file) return 2;
     const size_t length = fread(text, 1, sizeof text, file);
     size_t names = 0;
     for (char *at = text; at < text + length && names < MOST_NAMES; at = strchr(at, '\n') + 1) begins[names++] = at - text;
     begins[names] = length;
-    const char *version = ready(count - 3, words + 3);
+    const char *version = ready(words[3], count - 4, words + 4);
     if (!version) return 2;
     printf("version %s\n", version);
     static char room[ROOM];

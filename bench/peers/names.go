@@ -1,4 +1,4 @@
-// names FILE PASSES: what names.c does, by Go's package norm, which has no look at unassigned code points.
+// names FILE PASSES FORM: what names.c does, by Go's package norm, which has no look at unassigned code points.
 package main
 
 import (
@@ -22,16 +22,17 @@ func main() {
 	if err != nil {
 		log.Fatal(err)
 	}
+	form := map[string]norm.Form{"nfc": norm.NFC, "nfd": norm.NFD}[os.Args[3]]
 	names := bytes.Split(bytes.TrimSuffix(text, []byte("\n")), []byte("\n"))
 	sum, room := fnv.New64a(), make([]byte, 0, 4096)
 	for _, name := range names {
-		sum.Write(append(norm.NFC.Append(room[:0], name...), '\n'))
+		sum.Write(append(form.Append(room[:0], name...), '\n'))
 	}
 	var least time.Duration = 1 << 62
 	for pass := 0; pass < passes; pass++ {
 		begun := time.Now()
 		for _, name := range names {
-			room = norm.NFC.Append(room[:0], name...)
+			room = form.Append(room[:0], name...)
 		}
 		if took := time.Since(begun); took < least {
 			least = took

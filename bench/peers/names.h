@@ -1,4 +1,4 @@
-// What a peer of bench/names is: how it is made ready, and its ways to make a text's NFC.
+// What a peer of bench/names/run is: how it is made ready, and its ways to make a text's normal form.
 #include <stddef.h>
 
 #ifdef __cplusplus
@@ -13,8 +13,8 @@ extern const struct way {
     make_form *make;
 } ways[2];
 
-// Whether the peer is ready, by the words behind its own; the peer's version of Unicode.
-const char *ready(int count, char **words);
+// Whether the peer is ready for a form, `nfc` or `nfd`, by the words behind its own; the peer's version of Unicode.
+const char *ready(const char *form, int count, char **words);
 
 #ifdef __cplusplus
 }

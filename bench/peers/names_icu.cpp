@@ -6,12 +6,12 @@
 #include <unicode/uchar.h>
 #include <unicode/utf8.h>
 
-static const icu::Normalizer2 *nfc;
+static const icu::Normalizer2 *normalizer;
 
 static long form(const char *text, size_t length, char *room) {
     UErrorCode error = U_ZERO_ERROR;
     icu::CheckedArrayByteSink sink(room, 4096);
-    nfc->normalizeUTF8(0, icu::StringPiece(text, (int32_t)length), sink, nullptr, error);
+    normalizer->normalizeUTF8(0, icu::StringPiece(text, (int32_t)length), sink, nullptr, error);
     return U_FAILURE(error) || sink.Overflowed() ? -1 : sink.NumberOfBytesWritten();
 }
 
@@ -28,9 +28,9 @@ static long key(const char *text, size_t length, char *room) {
 extern "C" {
 const struct way ways[2] = {{"form", form}, {"key", key}};
 
-const char *ready(int, char **) {
+const char *ready(const char *form, int, char **) {
     UErrorCode error = U_ZERO_ERROR;
-    nfc = icu::Normalizer2::getNFCInstance(error);
+    normalizer = strcmp(form, "nfd") == 0 ? icu::Normalizer2::getNFDInstance(error) : icu::Normalizer2::getNFCInstance(error);
     return U_FAILURE(error) ? nullptr : U_UNICODE_VERSION;
 }
 }

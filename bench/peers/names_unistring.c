@@ -3,12 +3,15 @@
 #include <unictype.h>
 #include <uninorm.h>
 #include <stdio.h>
+#include <string.h>
 #include <unistr.h>
 #include <unistring/version.h>
 
+static uninorm_t normalizer;
+
 static long form(const char *text, size_t length, char *room) {
     size_t made = 4096;
-    return u8_normalize(UNINORM_NFC, (const uint8_t *)text, length, (uint8_t *)room, &made) == (uint8_t *)room ? (long)made : -1;
+    return u8_normalize(normalizer, (const uint8_t *)text, length, (uint8_t *)room, &made) == (uint8_t *)room ? (long)made : -1;
 }
 
 static long key(const char *text, size_t length, char *room) {
@@ -23,9 +26,10 @@ static long key(const char *text, size_t length, char *room) {
 
 const struct way ways[2] = {{"form", form}, {"key", key}};
 
-const char *ready(int count, char **words) {
+const char *ready(const char *form, int count, char **words) {
     static char version[64];
     (void)count, (void)words;
+    normalizer = strcmp(form, "nfd") == 0 ? UNINORM_NFD : UNINORM_NFC;
     snprintf(version, sizeof version, "of libunistring %d.%d", _libunistring_version >> 16, _libunistring_version >> 8 & 255);
     return version;
 }

@@ -1,5 +1,6 @@
-/* nodes DATA EXCLUSIONS RUNS: what a node does with 65,536 names of 12 bytes, beside a std::unordered_map with ICU doing the
- * same work. For each step a line: its name, and the nanoseconds for one name by npss and by ICU; the shortest run counts. */
+/* nodes DATA EXCLUSIONS RUNS NAMES: what a node does with the names of a file, a line each, 65,536 at most, beside a
+ * std::unordered_map with ICU doing the same work. For each step a line: its name, and the nanoseconds for one name by npss and
+ * by ICU; the shortest run counts. */
 #include <npss.h>
 #include <unicode/normalizer2.h>
 #include <unicode/uchar.h>
@@ -14,8 +15,9 @@
 #include <unordered_map>
 #include <vector>
 
-static const size_t COUNT = 65536;
+static const uint32_t ROOM = 65536;
 static const icu::Normalizer2 *nfc;
+static size_t count_of_names;
 
 static std::string file(const char *name) {
     std::ifstream in(name, std::ios::binary);
@@ -31,16 +33,12 @@ static void die(const char *what) {
     std::exit(1);
 }
 
-/* A third each of ASCII, Latin, and Latin that is decomposed. */
-static std::vector<std::string> names() {
-    std::vector<std::string> made;
-    char digits[16];
-    for (size_t i = 0; i < COUNT; i++) {
-        std::snprintf(digits, sizeof digits, "%08zx", i);
-        made.push_back(i % 3 == 0 ? std::string("alic") + digits : i % 3 == 1 ? std::string("J\xc3\xb6r") + digits
-                                                                            : std::string("Jo\xcc\x88") + digits);
-    }
-    return made;
+static std::vector<std::string> names(const char *path) {
+    std::vector<std::string> found;
+    std::ifstream in(path, std::ios::binary);
+    for (std::string line; std::getline(in, line);) found.push_back(line);
+    count_of_names = found.size();
+    return found;
 }
 
 /* The key of a name as npss makes it: none where it is no UTF-8 or has an unassigned code point. */
@@ -91,7 +89,7 @@ template <class Before, class Step> static double timed(int runs, Before before,
         std::chrono::duration<double, std::nano> took = std::chrono::steady_clock::now() - begun;
         if (took.count() < best) best = took.count();
     }
-    return best / COUNT;
+    return best / static_cast<double>(count_of_names);
 }
 
 static void done(npss_answer a) {
@@ -99,18 +97,19 @@ static void done(npss_answer a) {
 }
 
 int main(int count, char **words) {
-    if (count != 4) return 2;
+    if (count != 5) return 2;
     UErrorCode error = U_ZERO_ERROR;
     nfc = icu::Normalizer2::getNFCInstance(error);
     const std::string data = file(words[1]), exclusions = file(words[2]);
     const int runs = std::atoi(words[3]);
-    const std::vector<std::string> all = names();
+    const std::vector<std::string> all = names(words[4]);
+    if (all.empty() || all.size() > ROOM) return 2;
     npss_handle tables = {};
     npss_node home = {}, away = {};
     done(npss_open(&tables, bytes(data), data.size(), bytes(exclusions), exclusions.size()));
-    auto fresh = [&](npss_node *node) { done(npss_node_new(node, &tables, NPSS_NFC, COUNT)); };
+    auto fresh = [&](npss_node *node) { done(npss_node_new(node, &tables, NPSS_NFC, ROOM)); };
     Map map, other;
-    std::vector<std::string> messages(COUNT), told(COUNT);
+    std::vector<std::string> messages(all.size()), told(all.size());
     std::vector<uint8_t> image(1 << 23);
     std::string saved;
     uint8_t room[64];
@@ -123,7 +122,7 @@ int main(int count, char **words) {
             std::string key;
             for (auto &name : all) if (!map.count(name) && key_of(name, key)) map.emplace(name, key);
         }));
-    for (size_t i = 0; i < COUNT; i++) {
+    for (size_t i = 0; i < all.size(); i++) {
         done(a = npss_node_message(&home, bytes(all[i]), all[i].size(), room, sizeof room));
         messages[i].assign(reinterpret_cast<char *>(room), a.length);
         std::string key;
@@ -136,7 +135,7 @@ int main(int count, char **words) {
         timed(runs, [&] { other = Map(); }, [&] { for (auto &one : told) { size_t at = 0; take(other, one, at); } }));
     row("saved", timed(runs, nothing, [&] { done(a = npss_node_image(&home, image.data(), image.size())); }),
         timed(runs, [&] { saved.clear(); }, [&] { for (auto &one : map) { put(saved, one.first); put(saved, one.second); } }));
-    row("restored", timed(runs, [&] { npss_node_close(&away); }, [&] { done(npss_node_restore(&away, &tables, NPSS_NFC, COUNT, image.data(), a.length)); }),
+    row("restored", timed(runs, [&] { npss_node_close(&away); }, [&] { done(npss_node_restore(&away, &tables, NPSS_NFC, ROOM, image.data(), a.length)); }),
         timed(runs, [&] { other = Map(); }, [&] { for (size_t at = 0; at < saved.size();) take(other, saved, at); }));
     size_t found = 0;
     row("looked-up", timed(runs, nothing, [&] { for (auto &name : all) done(npss_node_key(&home, bytes(name), name.size(), room, sizeof room)); }),

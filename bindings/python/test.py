@@ -19,10 +19,11 @@ import weakref
 from pathlib import Path
 
 import npss
-from npss import (Accepted, BadEntry, BadTables, Break, Entry, Full, KeyDiffers, Malformed, Node, NotUtf8, OlderTables, OtherForm,
-                  Refused, Stream, Tables, TooLong, Unassigned)
+from npss import (Accepted, BadEntry, BadTables, Break, Entry, Full, KeyDiffers, Malformed, NoFolding, Node, NotUtf8, OlderTables,
+                  OtherForm, Refused, Stream, Tables, TooLong, Unassigned)
 
 V1, V2 = sys.argv[1:3], sys.argv[3:5]
+CASELESS = Path(V1[0]).parent.parent / "caseless"
 MARKED = "a\u0302\u0323"
 
 
@@ -182,7 +183,7 @@ class Texts(unittest.TestCase):
         self.assertEqual(self.tables.key(MARKED, "".join(["n", "f", "d"])), "a\u0323\u0302")
 
     def test_wrong_arguments(self):
-        for call in (lambda: self.tables.key(b"A"), lambda: self.tables.key(), lambda: self.tables.key("A", "nfc", 3),
+        for call in (lambda: self.tables.key(b"A"), lambda: self.tables.key(), lambda: self.tables.key("A", "nfc", True, 3),
                      lambda: self.tables.key("A", text="A"), lambda: self.tables.key("A", kind="nfc"), lambda: self.tables.keys(3)):
             self.assertRaises(TypeError, call)
         self.assertRaisesRegex(ValueError, "'nfx'", self.tables.key, "A", "nfx")
@@ -219,6 +220,203 @@ class Texts(unittest.TestCase):
                     wrong.append("short")
 
         threads = [threading.Thread(target=work) for _ in range(5)]
+        for thread in threads:
+            thread.start()
+        for thread in threads:
+            thread.join()
+        self.assertEqual(wrong, [])
+
+
+def rows(name):
+    """The rows of a file of the caseless fixtures, cut into their parts."""
+    lines = (CASELESS / name).read_text(encoding="utf-8").splitlines()
+    return [line.split(" / ") for line in lines if line and not line.startswith("#")]
+
+
+def text_of(codes):
+    """The text of code points as the fixtures write them; `-` is the empty one."""
+    return "".join(chr(int(code, 16)) for code in codes.split()) if codes != "-" else ""
+
+
+def with_foldings(files, folder):
+    """The tables of a version, with the foldings of a folder of the caseless fixtures."""
+    return Tables.open(*files, CASELESS / folder / "CaseFolding.txt")
+
+
+class Caseless(unittest.TestCase):
+    """What the fixtures say is from the definitions of docs/STANDARD.md."""
+
+    def setUp(self):
+        self.versions = {"v1": with_foldings(V1, "v1"), "v2": with_foldings(V2, "v2")}
+        self.tables = self.versions["v1"]
+
+    def test_keys(self):
+        keys = rows("KEYS.txt")
+        self.assertEqual(len(keys), 312)
+        for head, string, key in keys:
+            version, form = head.split()
+            tables, text = self.versions[version], text_of(string)
+            if key.startswith("unassigned"):
+                code, place = int(key.split()[1], 16), int(key.split()[-1])
+                with self.assertRaises(Unassigned) as caught:
+                    tables.key(text, form, caseless=True)
+                self.assertEqual((caught.exception.code, caught.exception.place), (code, place))
+                with self.assertRaises(Unassigned) as caught:
+                    tables.keys(["A", text], form, caseless=True)
+                self.assertEqual((caught.exception.number, caught.exception.place), (1, place))
+            else:
+                self.assertEqual(tables.key(text, form, caseless=True), text_of(key), (head, string))
+                self.assertEqual(tables.keys(form=form.upper(), texts=[text, "A"], caseless=True), [text_of(key), "a"])
+
+    def test_matches(self):
+        matches = rows("MATCHES.txt")
+        self.assertEqual(len(matches), 52)
+        for head, left, right, told in matches:
+            version, form = head.split()
+            if told[0] != "3":  # `compare` refuses what isn't assigned, which is taken here
+                self.assertEqual(self.versions[version].caseless_match(text_of(left), text_of(right), form.startswith("nfk")), told[0] == "0", head)
+        self.assertTrue(self.tables.caseless_match("A\U00016d67", "a\U00016d67"))
+        self.assertFalse(self.tables.caseless_match(left="A\U00016d67", right="A", compatible=True))
+        self.assertRaises(UnicodeEncodeError, self.tables.caseless_match, "\ud800", "a")
+        self.assertTrue(self.tables.caseless_match("A" * 100_000, "a" * 100_000))
+
+    def test_without_it_keys_are_as_ever(self):
+        for tables in (self.tables, Tables.open(*V1, None), Tables.open(*V1, folding=None)):
+            self.assertEqual(tables.key("A"), "A")
+            self.assertEqual(tables.key("A", "nfc", False), "A")
+            self.assertEqual(tables.keys(["A"], caseless=0), ["A"])
+            self.assertEqual(tables.answers(b"A"), b"=A\n")
+
+    def test_a_text_that_is_its_key_is_answered_itself(self):
+        text = "".join(["i", "a", "\u00e2"])
+        self.assertIs(self.tables.key(text, caseless=True), text)
+
+    def test_long_texts(self):
+        self.assertEqual(self.tables.key("A" * 100_000, "nfkd", caseless=True), "a" * 100_000)
+        self.assertEqual(self.tables.key("\ue000" * 10_000, caseless=True), "aa" * 10_000)
+
+    def test_without_foldings(self):
+        tables = Tables.open(*V1)
+        for call in (lambda: tables.key("A", caseless=True), lambda: tables.keys(["A"], caseless=True), lambda: tables.caseless_match("A", "a"),
+                     lambda: tables.key("A" * 100_000, caseless=True), lambda: tables.caseless_match("A" * 100_000, "a")):
+            self.assertRaisesRegex(NoFolding, "without CaseFolding.txt", call)
+        self.assertTrue(issubclass(NoFolding, Refused))
+        self.assertEqual(tables.keys([], caseless=True), [])
+
+    def test_files_at_the_edges(self):
+        edges = rows("edges/EXPECTED.txt")
+        self.assertEqual(len(edges), 104)
+        for name, data, _, told in edges:
+            files = (V1[0] if data == "v1" else CASELESS / "edges" / f"{data}.data", V1[1], CASELESS / "edges" / name)
+            if not told.startswith("version"):
+                self.assertEqual(Tables.open(*files).key("A", caseless=True), text_of(told), name)
+                continue
+            with self.assertRaises(BadTables) as caught:
+                Tables.open(*files)
+            self.assertEqual(f"version 0 {caught.exception}", told, name)
+            self.assertEqual(caught.exception.file, "folding")
+            self.assertNotEqual(caught.exception.line is None, caught.exception.code is None)
+
+    def test_a_large_folding_file_is_not_read_whole(self):
+        with tempfile.NamedTemporaryFile() as file, self.assertRaises(BadTables) as caught:
+            file.truncate(1 << 40)
+            Tables.open(*V1, file.name)
+        self.assertEqual((caught.exception.file, caught.exception.line, caught.exception.name), ("folding", None, "TooLarge"))
+
+    def test_what_is_no_file(self):
+        self.assertRaises(FileNotFoundError, Tables.open, *V1, "/no/such/file")
+        self.assertRaisesRegex(TypeError, "a path or bytes are wanted, not <class 'int'>", Tables.open, *V1, 3)
+        self.assertRaises(TypeError, Tables.open, *V1, b"", b"")
+
+    def test_answers_to_lines(self):
+        for head, string, key in rows("KEYS.txt"):
+            version, form = head.split()
+            line, refused = text_of(string), key.startswith("unassigned")
+            answer = (f"!{key}" if refused else f"={text_of(key)}").encode()
+            if "\n" not in line + text_of("" if refused else key):
+                self.assertEqual(self.versions[version].answers(f"{line}\nA".encode(), form, caseless=True), answer + b"\n=a\n", (head, string))
+                self.assertEqual(self.versions[version].answers(f"A\0{line}\0".encode(), form, b"\0", True), b"=a\0" + answer + b"\0")
+        self.assertEqual(self.tables.answers(b"", caseless=True), b"")
+        self.assertEqual(self.tables.answers(b"A\xff\n" + b"A" * 65_537, caseless=True), b"!not UTF-8 at byte 1\n!too long\n")
+        self.assertEqual(self.tables.answers(b"A\n" * 1_000_000, "nfkc", caseless=True), b"=a\n" * 1_000_000)
+        bare = Tables.open(*V1)
+        self.assertRaises(NoFolding, bare.answers, b"A", caseless=True)
+        self.assertEqual(bare.answers(b"A", caseless=False), b"=A\n")
+
+    def test_ascii_that_folds(self):
+        """A version of ASCII alone, in which each way to a key is taken: letters of ASCII, and U+212A, KELVIN SIGN, which folds to one."""
+        lines = [f"{code:04X};X;Lo;0;L;;;;;N;;;;;\n" for code in range(128)] + ["212A;X;Lu;0;L;;;;;N;;;;;\n"]
+        pairs = [f"{code:04X}; C; {code + 32:04X};\n" for code in range(0x41, 0x5B)]
+        data, folding = "".join(lines).encode(), "".join(pairs).encode() + b"212A; C; 006B;\n"
+        tables = Tables.open(data, b"", folding)
+        letters = "".join(map(chr, range(128)))
+        for form in ("nfc", "nfd", "nfkc", "nfkd"):
+            for count in (0, 1, 48, 49, 1_000):
+                self.assertEqual(tables.key(letters * count, form, caseless=True), letters.lower() * count)
+            self.assertEqual(tables.key("K\u212a", form, caseless=True), "kk")
+        text = "".join(["small", "letters"])
+        self.assertIs(tables.key(text, caseless=True), text)
+        self.assertEqual(tables.keys(["A", "\u212a"], "nfkc", caseless=True), ["a", "k"])
+        # where a letter of ASCII has a mapping
+        mapped = Tables.open(data.replace(lines[0x7A].encode(), b"007A;X;Lo;0;L;0061;;;;N;;;;;\n"), b"", folding)
+        self.assertEqual([mapped.key(text, caseless=True) for text in ("z", "Z", "y")], ["a", "a", "y"])
+        # where a letter of ASCII folds to two, or to another one than ASCII, or isn't assigned
+        for folded, key in ((b"0041; F; 0061 0061;\n", "aa"), (b"0041; C; 212A;\n", "\u212a")):
+            self.assertEqual(Tables.open(data, b"", folded).key("A", caseless=True), key)
+        self.assertEqual(Tables.open(data.replace(lines[0x42].encode(), b""), b"", b"0041; C; 0061;\n").key("A", caseless=True), "a")
+        self.assertRaises(Unassigned, Tables.open(data.replace(lines[0x42].encode(), b""), b"", b"0041; C; 0061;\n").key, "AB", caseless=True)
+
+    def test_extension(self):
+        files = {"v1": V1, "v2": V2, "changed": V2}
+        versions = {name: with_foldings(files[name], name) for name in files}
+        audits = [row for row in rows("AUDITS.txt") if len(row[0].split()) == 2]
+        self.assertEqual(len(audits), 9)
+        for head, status, told in audits:
+            old, new = (versions[name] for name in head.split())
+            self.assertEqual(new.extends(old, caseless=True), status == "0", head)
+            first = new.first_break(old, True)
+            self.assertEqual("extends" if first is None else f"{first.kind} {first.code:04X}", told.split(", ")[0], head)
+        self.assertTrue(versions["changed"].extends(older=versions["v1"]))  # by two files
+        bare = Tables.open(*V2)
+        for call in (lambda: bare.extends(versions["v1"], caseless=True), lambda: versions["v2"].first_break(Tables.open(*V1), caseless=True),
+                     lambda: bare.extends(bare, caseless=True)):
+            self.assertRaises(NoFolding, call)
+        self.assertTrue(versions["v2"].extends(Tables.open(*V1)))
+        self.assertTrue(bare.extends(bare))
+        self.assertRaises(TypeError, bare.extends)
+        self.assertRaises(TypeError, bare.extends, None, caseless=True)
+
+    def test_foldings(self):
+        # as the folding file has them: C and F count, S and T don't
+        for code, made in (("A", "a"), (0x41, "a"), ("f", "i"), ("\ue000", "aa"), (0xE001, "aa"), (0x327, "\u0915"), ("\ue010", "\ue00f"), ("i", "i"),
+                           ("\ue00f", "\ue00f"), ("\u00c5", "a\u030a"), (0xAC01, "\uac01")):
+            self.assertEqual(self.tables.folding(code), made)
+        self.assertIsNone(self.tables.folding("\U00016d67"))
+        for wrong in (0xD800, -1, 0x110000, "ab"):
+            self.assertRaises(ValueError, self.tables.folding, wrong)
+        self.assertRaises(NoFolding, Tables.open(*V1).folding, "A")
+
+    def test_a_flag_that_has_no_truth(self):
+        class Odd:
+            def __bool__(self):
+                raise LookupError("odd")
+
+        for call in (lambda: self.tables.key("A", caseless=Odd()), lambda: self.tables.keys(["A"], caseless=Odd()),
+                     lambda: self.tables.caseless_match("A", "a", Odd()), lambda: self.tables.extends(self.tables, Odd()), lambda: self.tables.answers(b"A", caseless=Odd())):
+            self.assertRaises(LookupError, call)
+
+    def test_threads(self):
+        wrong = []
+
+        def work():
+            for _ in range(200):
+                if self.tables.key("A\u0302\u0323" * 3_000, caseless=True) != self.tables.key("a\u0302\u0323" * 3_000):
+                    wrong.append("long")
+            for _ in range(2_000):
+                if self.tables.key("A", caseless=True) != "a":
+                    wrong.append("short")
+
+        threads = [threading.Thread(target=work) for _ in range(4)]
         for thread in threads:
             thread.start()
         for thread in threads:
@@ -523,7 +721,7 @@ class Habits(unittest.TestCase):
         self.assertEqual(str(self.tables.first_unassigned("\U0010ffff")), "10FFFF at character 0 (byte 0) is not assigned")
 
     def test_errors_are_those_of_the_package(self):
-        for name in ("BadEntry", "BadTables", "Full", "KeyDiffers", "Malformed", "NotUtf8", "OlderTables", "OtherForm", "Refused", "TooLong", "Unassigned"):
+        for name in ("BadEntry", "BadTables", "Full", "KeyDiffers", "Malformed", "NoFolding", "NotUtf8", "OlderTables", "OtherForm", "Refused", "TooLong", "Unassigned"):
             self.assertEqual(getattr(npss, name).__module__, "npss")
         error = self.tables.first_unassigned("\U0010ffff")
         self.assertEqual(pickle.loads(pickle.dumps(error)).args, error.args)
@@ -564,7 +762,7 @@ class Habits(unittest.TestCase):
 class Pages(unittest.TestCase):
     def test_each_call_has_a_page(self):
         page = pydoc.render_doc(npss, renderer=pydoc.plaintext)
-        for word in ("accept(self, string, /)", "key(self, /, text, form='nfc')", "open(data, exclusions)", "stabilized string", "class Unassigned"):
+        for word in ("accept(self, string, /)", "key(self, /, text, form='nfc', caseless=False)", "open(data, exclusions, folding=None)", "stabilized string", "class Unassigned"):
             self.assertIn(word, page)
         stub = Path(npss.__file__).with_name("_npss.pyi").read_text(encoding="utf-8")
         for kind in (Tables, Node, Stream):

@@ -1,18 +1,14 @@
 /*
  * files.c
- *		The folder of versions, the two files of each, and what is wrong with them.
+ *		The folder of versions, and the files of each.
  */
 #include "npss_pg.h"
 
 #include <fcntl.h>
-#include <sys/stat.h>
-#include <unistd.h>
 
 #include "storage/fd.h"
 #include "utils/builtins.h"
 #include "utils/resowner.h"
-
-#define MOST_OF_A_FILE 16777216
 
 /* ---------- failures */
 
@@ -51,14 +47,6 @@ fail_in_folder(Failure *failure, int sqlstate, char *message, char *hint)
 /* ---------- the folder */
 
 bool
-is_label(const char *label)
-{
-	size_t		length = strspn(label, "0123456789abcdefghijklmnopqrstuvwxyzABCDEFGHIJKLMNOPQRSTUVWXYZ._-");
-
-	return length > 0 && length < LABEL_SIZE && label[length] == '\0' && label[0] != '.';
-}
-
-bool
 has_folder(Failure *failure)
 {
 	if (npss_folder()[0] != '\0')
@@ -79,7 +67,7 @@ labels_in_folder(Failure *failure)
 		return NIL;
 	dir = AllocateDir(npss_folder());
 	while (dir != NULL && (entry = ReadDirExtended(dir, npss_folder(), LOG)) != NULL)
-		if (is_label(entry->d_name))
+		if (is_label(entry->d_name, LABEL_SIZE))
 			labels = lappend(labels, pstrdup(entry->d_name));
 	if (dir != NULL)
 		FreeDir(dir);
@@ -89,19 +77,17 @@ labels_in_folder(Failure *failure)
 	return labels;
 }
 
-/* ---------- the two files */
+/* ---------- the files of a version */
 
-/* Reads a file of a version into palloc'd memory.  A pipe or a device is not waited for. */
+/* Reads a file of a version into palloc'd memory. */
 static bool
-read_file(const char *label, const char *name, Bytes *bytes, Failure *failure)
+read_named(const char *label, const char *name, Bytes *bytes, Failure *failure)
 {
 	char	   *path = psprintf("%s/%s/%s", npss_folder(), label, name);
-	int			file = OpenTransientFile(path, O_RDONLY | O_NONBLOCK | PG_BINARY);
-	struct stat about;
-	ssize_t		got = 1;
+	int			file = OpenTransientFile(path, OPEN_A_FILE);
 	uint8	   *room;
+	bool		is_whole;
 
-	bytes->length = 0;
 	if (file < 0)
 	{
 		int			sqlstate = errno == EACCES || errno == EPERM ? ERRCODE_INSUFFICIENT_PRIVILEGE : ERRCODE_UNDEFINED_FILE;
@@ -111,48 +97,40 @@ read_file(const char *label, const char *name, Bytes *bytes, Failure *failure)
 							  psprintf("Put UnicodeData.txt and CompositionExclusions.txt into a folder of npss.folder that is "
 									   "named \"%s\".", label));
 	}
-	if (fstat(file, &about) != 0 || !S_ISREG(about.st_mode) || about.st_size > MOST_OF_A_FILE)
+	if (!measure_file(file, &bytes->length))
 	{
 		CloseTransientFile(file);
 		return fail_in_folder(failure, ERRCODE_CONFIG_FILE_ERROR,
 							  psprintf("npss: \"%s/%s\" of npss.folder is not a file of at most %d bytes", label, name, MOST_OF_A_FILE), NULL);
 	}
-	bytes->at = room = palloc(about.st_size + 1);
-	while (bytes->length < (size_t) about.st_size && got > 0)
-	{
-		got = read(file, room + bytes->length, about.st_size - bytes->length);
-		bytes->length += got > 0 ? got : 0;
-	}
+	bytes->at = room = palloc(bytes->length + 1);
+	is_whole = read_file(file, room, bytes->length);
 	CloseTransientFile(file);
-	if (bytes->length != (size_t) about.st_size)
+	if (!is_whole)
 		return fail_in_folder(failure, ERRCODE_IO_ERROR, psprintf("npss: could not read file \"%s/%s\" of npss.folder", label, name), NULL);
 	return true;
 }
 
-/* Reads the two files of a version into palloc'd memory. */
+/* Reads the files of a version into palloc'd memory. */
 bool
-read_files(const char *label, Bytes *data, Bytes *exclusions, Failure *failure)
+read_files(const char *label, Bytes *files, Failure *failure)
 {
-	return read_file(label, "UnicodeData.txt", data, failure) && read_file(label, "CompositionExclusions.txt", exclusions, failure);
+	for (int i = 0; i < FILE_COUNT; i++)
+		if (!read_named(label, file_names[i], &files[i], failure))
+			return false;
+	return true;
 }
 
-/*
- * The digest of the two files: SHA-256 of the length of the first, eight bytes from the lowest, the first, the second.  It is
- * made by the function that SQL has, which all versions of PostgreSQL have alike.
- */
+/* The digest of the files, made by the function that SQL has, which all versions of PostgreSQL have alike. */
 void
-make_digest(char *digest, const Bytes *data, const Bytes *exclusions)
+make_digest(char *digest, const Bytes *files)
 {
-	bytea	   *all = palloc(VARHDRSZ + 8 + data->length + exclusions->length);
-	uint8	   *at = (uint8 *) VARDATA(all);
+	bytea	   *all = palloc(VARHDRSZ + digested_size(files));
 	ResourceOwner before = CurrentResourceOwner;
 	bytea	   *made;
 
-	SET_VARSIZE(all, VARHDRSZ + 8 + data->length + exclusions->length);
-	for (int i = 0; i < 8; i++)
-		*at++ = (uint8) ((uint64) data->length >> (8 * i));
-	memcpy(at, data->at, data->length);
-	memcpy(at + data->length, exclusions->at, exclusions->length);
+	SET_VARSIZE(all, VARHDRSZ + digested_size(files));
+	put_digested((uint8 *) VARDATA(all), files);
 	if (before == NULL)			/* in the postmaster, where it would crash */
 		CurrentResourceOwner = ResourceOwnerCreate(NULL, "npss");
 	made = DatumGetByteaPP(DirectFunctionCall1(sha256_bytea, PointerGetDatum(all)));

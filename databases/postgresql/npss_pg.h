@@ -21,7 +21,7 @@
 #include "utils/relcache.h"
 #include "utils/snapshot.h"
 
-#include <npss.h>
+#include "../common.h"
 
 #if PG_VERSION_NUM < 130000
 #error "PostgreSQL 13 or later is wanted"
@@ -34,11 +34,7 @@
 #define LONG_TEXT (1024 * 1024)
 #define PIECE (64 * 1024)
 
-typedef struct Bytes
-{
-	const uint8 *at;
-	size_t		length;
-} Bytes;
+typedef struct bytes Bytes;
 
 static inline Bytes
 bytes_of(text *input)
@@ -85,10 +81,9 @@ extern const char *npss_folder(void);
 extern const char *npss_wanted_version(void);
 
 /* files.c */
-extern bool read_files(const char *label, Bytes *data, Bytes *exclusions, Failure *failure);
-extern void make_digest(char *digest, const Bytes *data, const Bytes *exclusions);
+extern bool read_files(const char *label, Bytes *files, Failure *failure);
+extern void make_digest(char *digest, const Bytes *files);
 extern bool has_folder(Failure *failure);
-extern bool is_label(const char *label);
 extern List *labels_in_folder(Failure *failure);
 extern bool fail(Failure *failure, int sqlstate, char *message, char *detail, char *hint);
 extern void report(int level, const Failure *failure);
@@ -100,7 +95,6 @@ extern void keep_version(Version *version);
 extern void shut_version(Version *version);
 extern void shut_versions_but(Version *kept);
 extern void preload_versions(void);
-extern const char *break_name(uint32_t fault);
 
 /* record.c */
 extern List *read_rows(Relation relation, Snapshot snapshot);

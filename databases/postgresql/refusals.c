@@ -1,6 +1,6 @@
 /*
  * refusals.c
- *		The words of forms, and the errors of texts that are refused.
+ *		The errors of forms that there are not, and of texts that are refused.
  */
 #include "npss_pg.h"
 
@@ -10,20 +10,15 @@
 uint8
 form_of(text *form)
 {
-	static const struct
-	{
-		const char *name;
-		uint8		form;
-	}			forms[] = {{"nfc", NPSS_NFC}, {"nfd", NPSS_NFD}, {"nfkc", NPSS_NFKC}, {"nfkd", NPSS_NFKD}};
 	Bytes		name = bytes_of(form);
+	uint8		named = form_named((const char *) name.at, name.length);
 
-	for (int i = 0; i < lengthof(forms); i++)
-		if (strlen(forms[i].name) == name.length && pg_strncasecmp((const char *) name.at, forms[i].name, name.length) == 0)
-			return forms[i].form;
-	ereport(ERROR,
-			(errcode(ERRCODE_INVALID_PARAMETER_VALUE),
-			 errmsg("invalid normalization form: %s", text_to_cstring(form)),
-			 errhint("The forms are nfc, nfd, nfkc and nfkd.")));
+	if (named == 0)
+		ereport(ERROR,
+				(errcode(ERRCODE_INVALID_PARAMETER_VALUE),
+				 errmsg("invalid normalization form: %s", text_to_cstring(form)),
+				 errhint("The forms are nfc, nfd, nfkc and nfkd.")));
+	return named;
 }
 
 /* How many characters stand before a byte. */

@@ -51,8 +51,10 @@ def installed(folder, prefix):
     libraries = folder / "lib" / "postgresql" / MAJOR
     shutil.copytree(LIBRARIES, libraries, ignore=shutil.ignore_patterns("bitcode"))
     shutil.copytree(SHARED, folder / "share" / "postgresql" / MAJOR)
-    source = folder / "source"
+    source = folder / "source" / HERE.name
     shutil.copytree(HERE, source, ignore=shutil.ignore_patterns("__pycache__", "*.o", "*.so", "results"))
+    for file in HERE.parent.glob("common.*"):
+        shutil.copy(file, source.parent)
     make = ["make", "-s", "-C", source, f"NPSS={prefix}", f"PG_CONFIG={PG_CONFIG}", "with_llvm=no"]
     built = subprocess.run(list(map(str, make)), stdout=subprocess.PIPE, stderr=subprocess.STDOUT, text=True, check=False)
     if built.returncode or "warning" in built.stdout:

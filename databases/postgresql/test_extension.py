@@ -5,7 +5,7 @@ import subprocess
 from pathlib import Path
 
 from cases import MARKED, YOUNG, YOUNGEST, Case
-from server import HERE, run
+from server import HEADER, HERE, run
 
 # What the library wants of the C library and of the tools that link it.
 TOOLS = re.compile(r"^(_ITM_|__gmon_start__|__cxa_|__stack_chk_fail|_Unwind_)")
@@ -72,3 +72,21 @@ class Extension(Case):
         told = subprocess.run(["nm", "-D", "--undefined-only", library], stdout=subprocess.PIPE, text=True, check=True).stdout
         wanted = {line.split()[-1] for line in told.splitlines() if "@" not in line}
         self.assertEqual({name for name in wanted if not TOOLS.match(name)} - allowed, set())
+
+    def test_functions_of_another_library(self):
+        """PostgreSQL loads libraries so that one sees the names of those before. Ours calls its own functions all the same."""
+        library = Path(self.programs).parent / "lib" / "npss.so"
+        told = subprocess.run(["nm", "-D", "--defined-only", library], stdout=subprocess.PIPE, text=True, check=True).stdout
+        names = [line.split()[-1] for line in told.splitlines() if line.split()[-2] == "T"]
+        names = [name for name in names if not name.startswith(("npss_pg_", "pg_finfo_", "Pg_magic_func", "_PG_init"))]
+        self.assertIn("keeps_ascii", names)
+        source = self.folder / "other.c"
+        source.write_text('#include "postgres.h"\n#include "fmgr.h"\nPG_MODULE_MAGIC;\n'
+                          + "".join(f"void {name}(void);\nvoid {name}(void) {{ abort(); }}\n" for name in names), encoding="ascii")
+        other = self.folder / "other.so"
+        subprocess.run(["cc", "-O1", "-shared", "-fPIC", f"-I{HEADER.parent}", "-o", other, source], check=True)
+        session = self.session(self.base("beside", "14.0"))
+        self.assertEqual(session.ask(f"LOAD '{other}'"), "")
+        self.assertEqual(session.ask(f"SELECT npss_nfc('{MARKED}') = '\u1ead', npss_key('A', 'NFKD'), npss_audit('15.0')"), "t|A|extends")
+        self.assertIn("22021", session.ask(f"SELECT npss_nfc('{YOUNGEST}')"))
+        self.assertEqual(session.ask("SELECT npss_raise('15.0')"), "15.0")

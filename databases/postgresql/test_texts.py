@@ -68,8 +68,41 @@ class Long(Case):
         self.assertEqual(self.server.sql(f"SELECT npss_is_normalized({long} || '{MARKED}', 'nfd'), npss_is_normalized({long} || 'a\u0323\u0302', 'nfd')", base), "f|t")
 
 
+def record(code, category="Lo", order=0, mapping=""):
+    """A line of UnicodeData.txt."""
+    return f"{code:04X};X;{category};{order};L;{mapping};;;;N;;;;;"
+
+
+def ascii_with(*others):
+    """A data file of ASCII alone but for other records, which stand in the place of those of their code points."""
+    records = {code: record(code) for code in range(0x80)} | {int(other.partition(";")[0], 16): other for other in others}
+    return "".join(f"{records[code]}\n" for code in sorted(records))
+
+
+# For each version that is made here its data file, whether ASCII is its own key in it under each form, and a text with its NFKC.
+MADE = {
+    "plain": (ascii_with(), "t", "AB", "AB"),
+    "compatible": (ascii_with(record(0x41, mapping="<compat> 0062")), "f", "AB", "bB"),
+    "composing": (ascii_with(record(0x100, mapping="0041 0042")), "f", "AB", "\u0100"),
+    "marked": (ascii_with(record(0x41, "Mn", 230), record(0x42, "Mn", 220)), "f", "AB", "BA"),
+    "holed": (ascii_with().replace(f"{record(0x41)}\n", ""), "f", "B", "B"),
+}
+
+
 class Words(Case):
     """Forms, labels and hints that are nearly others."""
+
+    @classmethod
+    def more_versions(cls):
+        for label, (data, *_) in MADE.items():
+            (copied(cls.versions, {label: VERSIONS / "15.0"}) / label / FILES[0]).write_text(data, encoding="ascii")
+            (cls.versions / label / FILES[1]).write_text("", encoding="ascii")
+
+    def test_which_versions_keep_ascii(self):
+        for label, (_, keeps, text, key) in MADE.items():
+            base = self.base("kept", label)
+            self.assertEqual(self.server.sql(f"SELECT ascii, npss_nfkc('{text}') FROM npss_record", base), f"{keeps}|{key}", label)
+        self.assertIn("U+0041 is not assigned", self.refused("22021", "SELECT npss_nfkc('A')", base))
 
     def test_forms(self):
         base = self.base("forms", "15.0")

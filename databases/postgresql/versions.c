@@ -1,6 +1,6 @@
 /*
  * versions.c
- *		The tables that the two files of a version make, and which are kept open.
+ *		The tables that the files of a version make, and which are kept open.
  */
 #include "npss_pg.h"
 
@@ -8,59 +8,18 @@
 
 static Version *versions = NULL;	/* all that are kept open in this process */
 
-static const char *const breaks[] = {"none", "Lost", "ClassChanged", "MappingChanged", "NowExcluded", "NowIncluded",
-"NewComposite"};
-static const char *const file_faults[] = {"none", "FieldCount", "BadCode", "OutOfOrder", "BadCategory", "BadClass",
-"BadMapping", "RangeOpen", "RangeLone", "RangeDiffers", "RangeMaps"};
-static const char *const table_faults[] = {"none", "MapsToUnassigned", "TooDeep", "TooLong", "AmbiguousPair",
-"HangulWrong"};
-
-const char *
-break_name(uint32_t fault)
-{
-	return fault < lengthof(breaks) ? breaks[fault] : "unknown";
-}
-
-/* Why two files make no version. */
+/* Why files make no version. */
 static bool
 fail_open(Failure *failure, const char *label, npss_answer answer)
 {
-	char	   *detail;
+	char		fault[FAULT_SIZE];
 
 	if (answer.status == NPSS_MEMORY)
 		return fail(failure, ERRCODE_OUT_OF_MEMORY, "out of memory",
 					psprintf("Failed to open the tables of Unicode version \"%s\".", label), NULL);
-	if (answer.status == NPSS_DATA)
-		detail = psprintf("UnicodeData.txt, line %llu: %s.", (unsigned long long) answer.place,
-						  answer.fault < lengthof(file_faults) ? file_faults[answer.fault] : "unknown");
-	else if (answer.status == NPSS_EXCLUSIONS)
-		detail = psprintf("CompositionExclusions.txt, line %llu: BadCode.", (unsigned long long) answer.place);
-	else
-		detail = psprintf("Both files together: %s at code point U+%04X.",
-						  answer.fault < lengthof(table_faults) ? table_faults[answer.fault] : "unknown", answer.code);
+	put_fault(fault, answer);
 	return fail(failure, ERRCODE_CONFIG_FILE_ERROR,
-				psprintf("npss: the files of Unicode version \"%s\" are faulty", label), detail, NULL);
-}
-
-/*
- * Whether each text of ASCII is its own key under each form.  It is where each of its code points is an assigned starter
- * without a mapping, and none composes with another (The Unicode Standard, D117 to D121).
- */
-static bool
-passes_ascii(npss_handle *handle)
-{
-	for (uint32_t code = 0; code < 0x80; code++)
-	{
-		npss_answer told = npss_property(handle, code);
-
-		if (told.status != NPSS_DONE || told.code != 0 || told.fault != NPSS_NO_MAPPING)
-			return false;
-	}
-	for (uint32_t first = 0; first < 0x80; first++)
-		for (uint32_t second = 0; second < 0x80; second++)
-			if (npss_composite(handle, first, second).status != NPSS_DIFFERENT)
-				return false;
-	return true;
+				psprintf("npss: the files of Unicode version \"%s\" are faulty", label), psprintf("%s.", fault), NULL);
 }
 
 static void
@@ -88,18 +47,17 @@ make_version(void)
 static bool
 fill_version(Version *version, const char *label, Failure *failure)
 {
-	Bytes		data,
-				exclusions;
+	Bytes		files[FILE_COUNT];
 	npss_answer answer;
 
-	if (!read_files(label, &data, &exclusions, failure))
+	if (!read_files(label, files, failure))
 		return false;
-	make_digest(version->digest, &data, &exclusions);
-	answer = npss_open(&version->handle, data.at, data.length, exclusions.at, exclusions.length);
+	make_digest(version->digest, files);
+	answer = open_files(&version->handle, files);
 	if (answer.status != NPSS_DONE)
 		return fail_open(failure, label, answer);
 	version->assigned = (int64) npss_count(&version->handle).length;
-	version->ascii = passes_ascii(&version->handle);
+	version->ascii = keeps_ascii(&version->handle);
 	strlcpy(version->label, label, LABEL_SIZE);
 	return true;
 }
@@ -118,7 +76,7 @@ open_version(const char *label, Failure *failure)
 
 	if (!has_folder(failure))
 		return NULL;
-	if (!is_label(label))
+	if (!is_label(label, LABEL_SIZE))
 	{
 		fail(failure, ERRCODE_INVALID_PARAMETER_VALUE, psprintf("npss: \"%s\" is not the name of a version", label), NULL,
 			 psprintf("A name such as 15.0 has at most %d letters, digits, dots, hyphens and underscores.", LABEL_SIZE - 1));

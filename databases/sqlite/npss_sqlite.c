@@ -53,15 +53,9 @@ int fail_by_database(sqlite3_context *call) {
 
 /* The form of a word, from any letters' case; 0 where an error is set. */
 static uint8_t form_of(sqlite3_context *call, sqlite3_value *word) {
-    static const struct {
-        const char *name;
-        uint8_t form;
-    } forms[] = {{"nfc", NPSS_NFC}, {"nfd", NPSS_NFD}, {"nfkc", NPSS_NFKC}, {"nfkd", NPSS_NFKD}};
     const char *name = (const char *)sqlite3_value_text(word);
-    for (size_t i = 0; name && i < sizeof forms / sizeof *forms; i++) {
-        if (!sqlite3_stricmp(name, forms[i].name)) return forms[i].form;
-    }
-    return (uint8_t)fail(call, sqlite3_mprintf("npss: a form is nfc, nfd, nfkc or nfkd, not %Q", name));
+    uint8_t named = name ? form_named(name, (size_t)sqlite3_value_bytes(word)) : 0;
+    return named ? named : (uint8_t)fail(call, sqlite3_mprintf("npss: a form is nfc, nfd, nfkc or nfkd, not %Q", name));
 }
 
 /* What is made of a text. */

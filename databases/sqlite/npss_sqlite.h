@@ -1,9 +1,10 @@
 /* What the files of the extension share: npss_sqlite.c, keys and questions; record.c, which tables are in use; attached.c,
- * attached databases; files.c, the two files of a version; raise.c, how a database comes to another version. */
+ * attached databases; files.c, the files of a version; raise.c, how a database comes to another version. */
 #ifndef NPSS_SQLITE_H
 #define NPSS_SQLITE_H
 
-#include <npss.h>
+#include "../common.h"
+
 #include <sqlite3ext.h>
 
 /* What is another where the main database may have become another one. */
@@ -43,10 +44,9 @@ typedef struct connection {
     uint8_t *room;          /* where what is made of most texts is put */
 } connection;
 
-/* Two files, of sqlite3_malloc or of the caller. */
+/* The files of a version, of sqlite3_malloc or of the caller. */
 typedef struct files {
-    unsigned char *data, *exclusions;
-    size_t data_length, exclusions_length;
+    bytes each[FILE_COUNT];
 } files;
 
 typedef void function(sqlite3_context *call, int count, sqlite3_value **given);
@@ -58,7 +58,6 @@ int fail_memory(sqlite3_context *call);
 int fail_by_database(sqlite3_context *call);
 
 /* files.c */
-const char *break_name(npss_answer a);
 int refuse(sqlite3_context *call, npss_answer a);
 int opened(sqlite3_context *call, npss_handle *tables, const files *of);
 int files_of(sqlite3_context *call, int count, sqlite3_value **given, files *found);

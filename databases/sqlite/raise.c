@@ -86,13 +86,17 @@ void do_is_raising(sqlite3_context *call, int count, sqlite3_value **given) {
     if (self->writes > 0) self->writes--;
 }
 
+/* Whether a file is bound to a statement's place. */
+static int bound(sqlite3_stmt *put, int place, const bytes *file) {
+    return sqlite3_bind_blob64(put, place, file->at, file->length, SQLITE_STATIC) == SQLITE_OK;
+}
+
 /* Writes the record, by a statement that writes one row: behind an audit, and while nobody else writes. */
 static int write_record(sqlite3_context *call, connection *self, const char *text, sqlite3_int64 assigned, const files *held) {
     sqlite3_stmt *put = NULL;
     int done = sqlite3_prepare_v2(self->db, text, -1, &put, NULL) == SQLITE_OK &&
                sqlite3_bind_int64(put, 1, assigned) == SQLITE_OK &&
-               sqlite3_bind_blob64(put, 2, held->data, held->data_length, SQLITE_STATIC) == SQLITE_OK &&
-               sqlite3_bind_blob64(put, 3, held->exclusions, held->exclusions_length, SQLITE_STATIC) == SQLITE_OK;
+               bound(put, 2, &held->each[DATA_FILE]) && bound(put, 3, &held->each[EXCLUSIONS_FILE]);
     self->writes = 1;
     if (!done || sqlite3_step(put) != SQLITE_DONE) done = fail_by_database(call);
     self->writes = 0;

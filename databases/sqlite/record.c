@@ -64,20 +64,25 @@ static state state_now(sqlite3 *db) {
 
 /* ---- the tables in use */
 
-/* Takes tables into use in place of those that there are; 0 where an error is set, and then none are in use. */
+/* Takes tables into use in place of those that there are; 0 where an error is set. Then none are in use, and what is known of
+ * those that were stays: whoever looks again has to see that others come. */
 int use(sqlite3_context *call, connection *self, npss_handle *tables, int is_recorded) {
     npss_answer a = npss_share(tables, &self->tables);
-    if (a.status != NPSS_DONE) npss_close(&self->tables);
-    self->assigned = (sqlite3_int64)npss_count(tables).length;
-    self->is_recorded = is_recorded;
     self->number++;
     forget_attached(self);
-    return a.status == NPSS_DONE ? 1 : refuse(call, a);
+    if (a.status != NPSS_DONE) {
+        npss_close(&self->tables);
+        return refuse(call, a);
+    }
+    self->assigned = (sqlite3_int64)npss_count(tables).length;
+    self->is_recorded = is_recorded;
+    return 1;
 }
 
-static const unsigned char *blob(sqlite3_stmt *row, int column) {
-    const unsigned char *at = sqlite3_column_blob(row, column);
-    return at ? at : (const unsigned char *)"";
+/* The bytes of a column, which live as long as the row. */
+static bytes blob(sqlite3_stmt *row, int column) {
+    const uint8_t *at = sqlite3_column_blob(row, column);
+    return (bytes){at ? at : (const uint8_t *)"", (size_t)sqlite3_column_bytes(row, column)};
 }
 
 /* Whether a record's tables may take the place of those of npss_open, whose keys may be stored; 0 where an error is set. */
@@ -99,9 +104,7 @@ int use_record(sqlite3_context *call, connection *self) {
     if (code == SQLITE_ERROR) return -1; /* there is no such table */
     if (code == SQLITE_OK) code = sqlite3_step(ask);
     if (code == SQLITE_ROW) {
-        files found = {(unsigned char *)blob(ask, 0), (unsigned char *)blob(ask, 1), 0, 0};
-        found.data_length = (size_t)sqlite3_column_bytes(ask, 0);
-        found.exclusions_length = (size_t)sqlite3_column_bytes(ask, 1);
+        files found = {{blob(ask, DATA_FILE), blob(ask, EXCLUSIONS_FILE)}};
         done = opened(call, &fresh, &found) && fits_own(call, self, &fresh) && use(call, self, &fresh, 1);
     } else if (code != SQLITE_DONE) {
         done = fail_by_database(call);

@@ -1,12 +1,18 @@
 """Memory that runs out, and what is left open."""
 
+import os
+import re
 import shutil
 import subprocess
 import sys
+import tempfile
 import unittest
 from pathlib import Path
 
-from cases import EXTENSION, MARKED, MIDDLE, NEW, OLD, Case
+from cases import EXTENSION, MIDDLE, NEW, OLD, OLD_COUNT, YOUNGEST, Case
+
+# What refuses allocations one by one (its first comment says how it is told).
+REFUSE = Path(__file__).resolve().parents[2] / "tests" / "program" / "refusals" / "refuse.c"
 
 
 class Memory(Case):
@@ -47,6 +53,47 @@ print(base.execute("SELECT npss_nfc('a')").fetchone()[0])
             self.assertEqual(ran.returncode, 0, ran.stderr)
             self.assertIn(ran.stdout.split()[0], (b"6000000", b"MemoryError", b"OperationalError"))
             self.assertEqual(ran.stdout.split()[1], b"a")
+
+    @unittest.skipUnless(shutil.which("cc") and shutil.which("sqlite3"), "cc or SQLite's shell is not here")
+    def test_a_raise_that_was_refused_memory_is_undone(self):
+        """Each allocation of a raise within a transaction is refused in turn. Behind the rollback keys are those of before."""
+        before = [f".load {EXTENSION}", f"SELECT npss_raise('{OLD}');", "BEGIN;"]
+        raised = [f"SELECT npss_raise('{NEW}');"]
+        behind = [f"SELECT npss_try_key('{YOUNGEST}');", "ROLLBACK;", f"SELECT 'end', npss_version(), npss_try_key('{YOUNGEST}') IS NULL;"]
+        with tempfile.TemporaryDirectory() as name:
+            shim = Path(name, "refuse.so")
+            subprocess.run(["cc", "-O2", "-shared", "-fPIC", "-o", shim, REFUSE], check=True)
+            first, last = (self.allocations(shim, Path(name), statements) for statements in (before, before + raised))
+            self.assertGreater(last, first)
+            ends = self.refused_each(shim, Path(name), before + raised + behind, first - 20)
+        # Where the statement was refused that begins the transaction, or the one that undoes it, nothing is undone.
+        told = [out.splitlines()[-1] for out, err in ends if not re.search("line [36]: out of memory", err) and "\nend|" in f"\n{out}"]
+        self.assertGreater(len(told), (last - first) // 2)
+        self.assertEqual(set(told), {f"end|{OLD_COUNT}|1"})
+
+    def shell(self, shim, folder, statements, **told):
+        """A run of SQLite's shell over a database in memory, with the shim that is told so; what it wrote."""
+        with open(folder / "given", "w+", encoding="utf-8") as given, open(folder / "out", "w", encoding="utf-8") as out, open(folder / "err", "w") as err:
+            given.write("\n".join(statements) + "\n")
+            given.seek(0)
+            subprocess.run(["sqlite3", "-batch", ":memory:"], stdin=given, stdout=out, stderr=err, env={**os.environ, "LD_PRELOAD": str(shim), **told},
+                           timeout=600, check=False)
+
+    def allocations(self, shim, folder, statements):
+        """How many allocations a run makes."""
+        self.shell(shim, folder, statements, REFUSE_COUNTS=str(folder / "counts"))
+        return int((folder / "counts").read_text().split()[0])
+
+    def refused_each(self, shim, folder, statements, first):
+        """What copies of a run wrote to both outputs, each of which was refused one allocation, from a place on."""
+        self.shell(shim, folder, statements, REFUSE="memory:0:", REFUSE_EACH=f"{first}:1", REFUSE_ENDS=str(folder / "ends"))
+        told, found = (folder / "ends").read_bytes(), []
+        while told:
+            line, _, told = told.partition(b"\n")
+            *_, out, err = map(int, line.split())
+            found.append((told[:out].decode(), told[out:out + err].decode()))
+            told = told[out + err:]
+        return found
 
     @unittest.skipUnless(shutil.which("valgrind"), "valgrind is not here")
     def test_nothing_is_touched_out_of_bounds(self):

@@ -201,19 +201,22 @@ class Files(Case):
         self.assertEqual(self.asked(base, "npss_audit(?, ?)", *blobs), "extends")
         for given in (("a", "b"), (blobs[0], "b"), ("a", blobs[1]), (blobs[0], None)):
             self.refused("two blobs", base, "SELECT npss_raise(?, ?)", *given)
+        for number in range(2):
+            large = [b"\n" * 16_777_217 if at == number else blob for at, blob in enumerate(blobs)]
+            self.refused(f"{FILES[number]} has more than 16777216 bytes", base, "SELECT npss_raise(?, ?)", *large)
 
     def test_files_that_are_faulty(self):
         base = self.connect()
         with tempfile.TemporaryDirectory() as folder:
             self.refused("can't be opened", base, "SELECT npss_raise(?)", folder)
-            for data, words in ((b"0041;x\n", "UnicodeData.txt, line 1: FieldCount"), (b"0041;X;Lu;0;L;0042;;;;N;;;;;\n", "MapsToUnassigned 0041"),
-                                (b"\n" * 16_777_217, "UnicodeData.txt has more than")):
+            for data, words in ((b"0041;x\n", "UnicodeData.txt, line 1: FieldCount"), (b"0041;X;Lu;0;L;0042;;;;N;;;;;\n", "MapsToUnassigned at code point U\\+0041"),
+                                (b"\n" * 16_777_217, "UnicodeData.txt is not a file of at most 16777216 bytes")):
                 Path(folder, FILES[0]).write_bytes(data)
                 Path(folder, FILES[1]).write_bytes(b"")
                 self.refused(words, base, "SELECT npss_raise(?)", folder)
             Path(folder, FILES[0]).unlink()
             Path(folder, FILES[0]).mkdir()
-            self.refused("is no file", base, "SELECT npss_raise(?)", folder)
+            self.refused("is not a file of at most", base, "SELECT npss_raise(?)", folder)
         self.refused("a folder is wanted", base, "SELECT npss_raise(NULL)")
         self.refused("records no version", base, "SELECT npss_key('a')")
 
@@ -228,7 +231,7 @@ class Files(Case):
                     Path(folder, odd).unlink()
                     make(Path(folder, odd))
                     ran = subprocess.run([sys.executable, "-c", code, folder], stdout=subprocess.PIPE, text=True, timeout=60, check=True)
-                    self.assertEqual(ran.stdout, f"npss: {folder}/{odd} is no file\n")
+                    self.assertEqual(ran.stdout, f"npss: {folder}/{odd} is not a file of at most 16777216 bytes\n")
 
     def test_of_the_greatest_size(self):
         base = self.connect()

@@ -50,6 +50,11 @@ static inline int string_of(PyObject *string, bytes *found) {
     return -1;
 }
 
+/* Whether a flag was given and is true; -1 where an error was raised. */
+static inline int flag_of(PyObject *given) {
+    return given ? PyObject_IsTrue(given) : 0;
+}
+
 static const struct {
     const char *name;
     uint8_t form;

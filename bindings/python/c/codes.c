@@ -54,13 +54,25 @@ PyObject *tables_decomposition(PyObject *of, PyObject *const *given, Py_ssize_t 
     tables *self = (tables *)of;
     uint8_t room[SMALL_ROOM]; /* a full decomposition has at most 64 code points */
     PyObject *taken[2];
-    int compatible = 0;
+    int compatible;
     npss_answer a;
     uint32_t code;
-    if (take(given, count, words, names, 1, taken) || code_of(taken[0], &code)) return NULL;
-    if (taken[1] && (compatible = PyObject_IsTrue(taken[1])) < 0) return NULL;
+    if (take(given, count, words, names, 1, taken) || code_of(taken[0], &code) || (compatible = flag_of(taken[1])) < 0) return NULL;
     a = npss_decomposition(&self->handle, compatible != 0, code, room, sizeof room);
     if (a.status == NPSS_NO_CODE) return no_code(taken[0]);
+    if (a.status != NPSS_DONE) return refuse(self->state, a, NULL);
+    return PyUnicode_DecodeUTF8((const char *)room, (Py_ssize_t)a.length, NULL);
+}
+
+PyObject *tables_folding(PyObject *of, PyObject *given) {
+    tables *self = (tables *)of;
+    uint8_t room[4 * 32]; /* a folding has at most 32 code points */
+    npss_answer a;
+    uint32_t code;
+    if (code_of(given, &code)) return NULL;
+    a = npss_folding(&self->handle, code, room, sizeof room);
+    if (a.status == NPSS_UNASSIGNED) Py_RETURN_NONE;
+    if (a.status == NPSS_NO_CODE) return no_code(given);
     if (a.status != NPSS_DONE) return refuse(self->state, a, NULL);
     return PyUnicode_DecodeUTF8((const char *)room, (Py_ssize_t)a.length, NULL);
 }

@@ -3,8 +3,8 @@
 
 static const char *const file_names[] = {"contents"};
 static const char *const value_names[] = {"Break", "Entry", "Property"};
-static const char *const error_names[] = {"BadTables", "Refused",   "TooLong",    "NotUtf8",     "Unassigned", "Full",
-                                          "Malformed", "OtherForm", "KeyDiffers", "OlderTables", "BadEntry"};
+static const char *const error_names[] = {"BadTables", "Refused",   "NoFolding", "TooLong",    "NotUtf8",     "Unassigned",
+                                          "Full",      "Malformed", "OtherForm", "KeyDiffers", "OlderTables", "BadEntry"};
 
 /* Puts an attribute of a Python half into the state. */
 static int bring(module_state *state, int member, PyObject *from, const char *name) {

@@ -25,6 +25,7 @@ enum member {
     /* What is raised, from npss._errors, in the order of `error_names`. */
     BAD_TABLES,
     REFUSED,
+    NO_FOLDING,
     TOO_LONG,
     NOT_UTF8,
     UNASSIGNED,
@@ -59,6 +60,8 @@ typedef struct tables {
     PyObject *weak; /* the weak references to it */
     npss_handle handle;
     uint64_t keeps_ascii; /* under which forms each text of ASCII is its own key: `bit_of` each */
+    uint8_t folds_ascii;  /* whether the caseless key of a text of ASCII is its characters, each as `folded` has it */
+    uint8_t folded[128];
 } tables;
 
 /* Bytes that are lent, and what has to be let go afterwards; NULL where that is nothing. */

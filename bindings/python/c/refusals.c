@@ -8,19 +8,36 @@ static Py_ssize_t index_at(const uint8_t *text, uint64_t place) {
     return index;
 }
 
-static PyObject *bad_tables(const module_state *state, npss_answer a) {
+static const char *const file_names[] = {"data", "exclusions", "folding"};
+
+/* The fault of a file at its line. */
+static PyObject *bad_line(const module_state *state, npss_answer a) {
     static const char *const file_faults[] = {"",         "FieldCount", "BadCode",   "OutOfOrder", "BadCategory",
                                               "BadClass", "BadMapping", "RangeOpen", "RangeLone",  "RangeDiffers",
                                               "RangeMaps"};
+    static const char *const folding_faults[] = {"",           "FieldCount",     "BadCode",   "BadStatus",
+                                                 "OutOfOrder", "StatusConflict", "BadMapping"};
+    const int number = a.status == NPSS_FOLDING ? 2 : a.status == NPSS_EXCLUSIONS;
+    return PyObject_CallFunction(state->of[BAD_TABLES], "sKs", file_names[number], (unsigned long long)a.place,
+                                 number == 2 ? folding_faults[a.fault] : file_faults[a.fault]);
+}
+
+static PyObject *bad_tables(const module_state *state, npss_answer a) {
     static const char *const table_faults[] = {"",        "MapsToUnassigned", "TooDeep",
                                                "TooLong", "AmbiguousPair",    "HangulWrong"};
+    static const char *const condition_faults[] = {"",           "FoldsUnassigned", "FoldsToUnassigned",
+                                                   "FoldsAgain", "FoldedTooLong",   "NotFolded"};
     PyObject *class = state->of[BAD_TABLES];
-    if (a.status == NPSS_TABLES)
+    switch (a.status) {
+    case NPSS_TABLES:
         return PyObject_CallFunction(class, "sOsI", "tables", Py_None, table_faults[a.fault], a.code);
-    if (a.status == NPSS_TOO_LARGE)
-        return PyObject_CallFunction(class, "sOs", a.fault == 1 ? "data" : "exclusions", Py_None, "TooLarge");
-    return PyObject_CallFunction(class, "sKs", a.status == NPSS_DATA ? "data" : "exclusions",
-                                 (unsigned long long)a.place, file_faults[a.fault]);
+    case NPSS_FOLDINGS:
+        return PyObject_CallFunction(class, "sOsI", "folding", Py_None, condition_faults[a.fault], a.code);
+    case NPSS_TOO_LARGE:
+        return PyObject_CallFunction(class, "sOs", file_names[a.fault - 1], Py_None, "TooLarge");
+    default:
+        return bad_line(state, a);
+    }
 }
 
 /* The class of a refusal that tells nothing but itself, or a place alone; -1 of any other. */
@@ -34,6 +51,8 @@ static int plain_class(uint32_t status) {
         return OTHER_FORM;
     case NPSS_KEY_DIFFERS:
         return KEY_DIFFERS;
+    case NPSS_NO_FOLDING:
+        return NO_FOLDING;
     default:
         return -1;
     }
@@ -56,6 +75,8 @@ PyObject *refusal(const module_state *state, npss_answer a, const uint8_t *text)
     case NPSS_EXCLUSIONS:
     case NPSS_TABLES:
     case NPSS_TOO_LARGE:
+    case NPSS_FOLDING:
+    case NPSS_FOLDINGS:
         return bad_tables(state, a);
     case NPSS_MEMORY:
         return PyErr_NoMemory();
@@ -105,6 +126,6 @@ PyObject *refuse_image(const module_state *state, npss_answer a, const uint8_t *
 
 PyObject *break_of(const module_state *state, npss_answer a) {
     static const char *const kinds[] = {
-        "", "Lost", "ClassChanged", "MappingChanged", "NowExcluded", "NowIncluded", "NewComposite"};
+        "", "Lost", "ClassChanged", "MappingChanged", "NowExcluded", "NowIncluded", "NewComposite", "FoldingChanged"};
     return PyObject_CallFunction(state->of[BREAK_CLASS], "sI", kinds[a.fault], a.code);
 }

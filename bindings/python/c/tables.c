@@ -3,25 +3,6 @@
 
 /* After so many texts of a list Python is asked whether a signal came. */
 #define TEXTS 1024
-/* Lines are answered in pieces of so many bytes, and Python is asked after each. */
-#define PIECE (1 << 20)
-
-/* A call that writes into a room, and what it is asked for. */
-typedef struct maker {
-    enum { KEY, FORM, ANSWERS } what;
-    npss_asked asked;
-} maker;
-
-static inline npss_answer call(const maker *maker, npss_handle *handle, bytes b, uint8_t *room, size_t size) {
-    switch (maker->what) {
-    case KEY:
-        return npss_key(handle, maker->asked.form, b.at, (size_t)b.length, room, size);
-    case FORM:
-        return npss_normalize(handle, maker->asked.form, b.at, (size_t)b.length, room, size);
-    default:
-        return npss_answers(handle, &maker->asked, b.at, (size_t)b.length, room, size);
-    }
-}
 
 /* The str of what was made of a text; the text itself where that has the same bytes. */
 static inline PyObject *str_of(PyObject *text, bytes b, const uint8_t *made, uint64_t length) {
@@ -61,9 +42,19 @@ static inline uint64_t bit_of(uint8_t form) {
     return UINT64_C(1) << (form & 63);
 }
 
-/* Whether a text is known to be its own key, and so its own form: it is ASCII, since it has as many bytes as code points. */
-static inline int stays(const tables *self, uint8_t form, PyObject *text, bytes b) {
-    return (self->keeps_ascii & bit_of(form)) && PyUnicode_GetLength(text) == b.length;
+/* Whether a text is ASCII: it has as many bytes as code points. */
+static inline int is_ascii(PyObject *text, bytes b) {
+    return PyUnicode_GetLength(text) == b.length;
+}
+
+/* Whether a text is known to be its own key, and so its own form. */
+static inline int stays(const tables *self, const maker *maker, PyObject *text, bytes b) {
+    return maker->what != CASELESS_KEY && (self->keeps_ascii & bit_of(maker->asked.form)) && is_ascii(text, b);
+}
+
+/* Whether the caseless key of a text is known to be its characters, each folded. */
+static inline int folds(const tables *self, const maker *maker, PyObject *text, bytes b) {
+    return maker->what == CASELESS_KEY && self->folds_ascii && b.length <= SMALL_ROOM && is_ascii(text, b);
 }
 
 /* What a call makes of a text. */
@@ -73,9 +64,13 @@ static PyObject *make(tables *self, const maker *maker, PyObject *text) {
     npss_answer a;
     bytes b;
     if (text_of(text, &b)) return NULL;
-    if (stays(self, maker->asked.form, text, b)) {
+    if (stays(self, maker, text, b)) {
         Py_INCREF(text);
         return text;
+    }
+    if (folds(self, maker, text, b)) {
+        for (Py_ssize_t i = 0; i < b.length; i++) small[i] = self->folded[b.at[i]];
+        return str_of(text, b, small, (uint64_t)b.length);
     }
     if (b.length <= LONG_TEXT) {
         a = call(maker, &self->handle, b, small, sizeof small);
@@ -88,19 +83,28 @@ static PyObject *make(tables *self, const maker *maker, PyObject *text) {
     return made;
 }
 
-static const char *const text_names[] = {"text", "form", NULL};
+/* What kind of key is asked for; -1 where an error was raised. */
+static int kind_of(PyObject *caseless, maker *maker) {
+    int yes = flag_of(caseless);
+    maker->what = yes > 0 ? CASELESS_KEY : KEY;
+    return yes < 0 ? -1 : 0;
+}
 
 static PyObject *tables_key(PyObject *self, PyObject *const *given, Py_ssize_t count, PyObject *words) {
+    static const char *const names[] = {"text", "form", "caseless", NULL};
     maker key = {KEY, {0, 0}};
-    PyObject *taken[2];
-    if (take(given, count, words, text_names, 1, taken) || form_of(((tables *)self)->state, taken[1], &key.asked.form)) return NULL;
+    PyObject *taken[3];
+    if (take(given, count, words, names, 1, taken) || form_of(((tables *)self)->state, taken[1], &key.asked.form) ||
+        kind_of(taken[2], &key))
+        return NULL;
     return make((tables *)self, &key, taken[0]);
 }
 
 static PyObject *tables_normalize(PyObject *self, PyObject *const *given, Py_ssize_t count, PyObject *words) {
+    static const char *const names[] = {"text", "form", NULL};
     maker form = {FORM, {0, 0}};
     PyObject *taken[2];
-    if (take(given, count, words, text_names, 1, taken) || form_of(((tables *)self)->state, taken[1], &form.asked.form)) return NULL;
+    if (take(given, count, words, names, 1, taken) || form_of(((tables *)self)->state, taken[1], &form.asked.form)) return NULL;
     return make((tables *)self, &form, taken[0]);
 }
 
@@ -121,12 +125,12 @@ static void add_number(const module_state *state, Py_ssize_t number) {
 }
 
 static PyObject *tables_keys(PyObject *of, PyObject *const *given, Py_ssize_t count, PyObject *words) {
-    static const char *const names[] = {"texts", "form", NULL};
+    static const char *const names[] = {"texts", "form", "caseless", NULL};
     tables *self = (tables *)of;
     maker key = {KEY, {0, 0}};
-    PyObject *taken[2], *iterator, *text, *keys;
+    PyObject *taken[3], *iterator, *text, *keys;
     Py_ssize_t number = 0;
-    if (take(given, count, words, names, 1, taken) || form_of(self->state, taken[1], &key.asked.form)) return NULL;
+    if (take(given, count, words, names, 1, taken) || form_of(self->state, taken[1], &key.asked.form) || kind_of(taken[2], &key)) return NULL;
     if (PyUnicode_Check(taken[0]))
         return PyErr_Format(PyExc_TypeError, "many texts are wanted, as a list of them; key makes the key of one str");
     if (!(iterator = PyObject_GetIter(taken[0]))) return NULL;
@@ -143,214 +147,83 @@ static PyObject *tables_keys(PyObject *of, PyObject *const *given, Py_ssize_t co
     return keys;
 }
 
-/* The byte that ends lines: of b"\n" or b"\0", or NULL for the first. */
-static int end_of(PyObject *given, uint8_t *end) {
-    char *at = "\n";
-    Py_ssize_t length = 1;
-    if (given && PyBytes_AsStringAndSize(given, &at, &length)) return -1;
-    if (length == 1 && (*at == '\n' || *at == 0)) {
-        *end = (uint8_t)*at;
-        return 0;
-    }
-    PyErr_Format(PyExc_ValueError, "the end of lines is b'\\n' or b'\\0', not %R", given);
-    return -1;
-}
-
-/* What is made of lines, as it grows. */
-typedef struct answers {
-    uint8_t *room;
-    size_t used, size;
-    int refused;
-} answers;
-
-/* Appends the answers to some whole lines. Worked on without the interpreter's lock. */
-static npss_answer append(answers *made, const maker *maker, npss_handle *own, bytes lines) {
-    npss_answer a;
-    for (;;) {
-        uint8_t *larger;
-        Py_BEGIN_ALLOW_THREADS
-        a = call(maker, own, lines, made->room + made->used, made->size - made->used);
-        Py_END_ALLOW_THREADS
-        if (a.status != NPSS_NO_ROOM) break;
-        /* By half as much more, so that it is not copied at each piece. */
-        made->size = made->used + (size_t)a.length + made->size / 2;
-        if (!(larger = PyMem_Realloc(made->room, made->size))) {
-            a.status = NPSS_MEMORY;
-            break;
-        }
-        made->room = larger;
-    }
-    if (a.status == NPSS_DONE) {
-        made->used += (size_t)a.length;
-        made->refused |= a.fault != 0;
-    }
-    return a;
-}
-
-/* How many bytes the first lines have, some PIECE of them, or all that are left. */
-static Py_ssize_t first_lines(bytes left, uint8_t end) {
-    const uint8_t *found;
-    if (left.length <= PIECE) return left.length;
-    found = memchr(left.at + PIECE, end, (size_t)(left.length - PIECE));
-    return found ? found - left.at + 1 : left.length;
-}
-
-/* Answers lines piece by piece; -1 where an error was raised. */
-static int answer_pieces(tables *self, const maker *maker, bytes left, answers *made) {
-    npss_handle own = {0, NULL};
-    npss_answer a = npss_share(&self->handle, &own);
-    int signalled = 0;
-    made->size = (size_t)(left.length < PIECE ? left.length : PIECE) * 3 / 2 + 64;
-    if (a.status == NPSS_DONE && !(made->room = PyMem_Malloc(made->size))) a.status = NPSS_MEMORY;
-    while (a.status == NPSS_DONE && left.length > 0 && !(signalled = PyErr_CheckSignals())) {
-        bytes lines = {left.at, first_lines(left, maker->asked.end), NULL};
-        a = append(made, maker, &own, lines);
-        left.at += lines.length;
-        left.length -= lines.length;
-    }
-    npss_close(&own);
-    if (a.status != NPSS_DONE) refuse(self->state, a, NULL);
-    return signalled || a.status != NPSS_DONE ? -1 : 0;
-}
-
-static PyObject *tables_answers(PyObject *of, PyObject *const *given, Py_ssize_t count, PyObject *words) {
-    static const char *const names[] = {"lines", "form", "end", NULL};
-    tables *self = (tables *)of;
-    maker maker = {ANSWERS, {0, 0}};
-    answers made = {NULL, 0, 0, 0};
-    PyObject *taken[3], *told = NULL;
-    bytes lines;
-    if (take(given, count, words, names, 1, taken) || form_of(self->state, taken[1], &maker.asked.form) ||
-        end_of(taken[2], &maker.asked.end) || data_of(taken[0], &lines))
-        return NULL;
-    if (!answer_pieces(self, &maker, lines, &made))
-        told = PyBytes_FromStringAndSize((const char *)made.room, (Py_ssize_t)made.used);
-    PyMem_Free(made.room);
-    let_go(&lines);
-    return told;
-}
-
-/* The answer to a question; -1 where an error was raised. */
-static int told(const module_state *state, npss_answer a) {
-    if (a.status == NPSS_DONE || a.status == NPSS_DIFFERENT) return a.status == NPSS_DONE;
-    refuse(state, a, NULL);
-    return -1;
-}
-
-static PyObject *tables_is_normalized(PyObject *of, PyObject *const *given, Py_ssize_t count, PyObject *words) {
-    tables *self = (tables *)of;
-    npss_handle own = {0, NULL};
-    PyObject *taken[2];
-    npss_answer a;
-    uint8_t form;
-    bytes b;
-    int yes;
-    if (take(given, count, words, text_names, 1, taken) || form_of(self->state, taken[1], &form) ||
-        text_of(taken[0], &b))
-        return NULL;
-    if (b.length <= LONG_TEXT) {
-        a = npss_is_form(&self->handle, form, b.at, (size_t)b.length);
-    } else if ((a = npss_share(&self->handle, &own)).status == NPSS_DONE) {
-        Py_BEGIN_ALLOW_THREADS
-        a = npss_is_form(&own, form, b.at, (size_t)b.length);
-        npss_close(&own);
-        Py_END_ALLOW_THREADS
-    }
-    return (yes = told(self->state, a)) < 0 ? NULL : PyBool_FromLong(yes);
-}
-
-static PyObject *tables_equivalent(PyObject *of, PyObject *const *given, Py_ssize_t count, PyObject *words) {
-    static const char *const names[] = {"left", "right", "compatible", NULL};
-    tables *self = (tables *)of;
-    npss_handle own = {0, NULL};
-    PyObject *taken[3];
-    npss_answer a;
-    bytes left, right;
-    int yes, compatible = 0;
-    if (take(given, count, words, names, 2, taken) || text_of(taken[0], &left) || text_of(taken[1], &right))
-        return NULL;
-    if (taken[2] && (compatible = PyObject_IsTrue(taken[2])) < 0) return NULL;
-    if (left.length + right.length <= LONG_TEXT) {
-        a = npss_equivalent(&self->handle, compatible != 0, left.at, (size_t)left.length, right.at,
-                            (size_t)right.length);
-    } else if ((a = npss_share(&self->handle, &own)).status == NPSS_DONE) {
-        Py_BEGIN_ALLOW_THREADS
-        a = npss_equivalent(&own, compatible != 0, left.at, (size_t)left.length, right.at, (size_t)right.length);
-        npss_close(&own);
-        Py_END_ALLOW_THREADS
-    }
-    return (yes = told(self->state, a)) < 0 ? NULL : PyBool_FromLong(yes);
-}
-
-/* Whether this version extends an older one; both handles are used under the interpreter's lock. */
-static int extension(PyObject *of, PyObject *older, npss_answer *a) {
-    tables *self = (tables *)of;
-    if (!PyObject_TypeCheck(older, (PyTypeObject *)self->state->of[TABLES_TYPE])) {
-        PyErr_Format(PyExc_TypeError, "a Tables is wanted, not %R", (PyObject *)Py_TYPE(older));
-        return -1;
-    }
-    if (of == older) {
-        memset(a, 0, sizeof *a);
-    } else {
-        *a = npss_extends(&((tables *)older)->handle, &self->handle);
-    }
-    return told(self->state, *a);
-}
-
-static PyObject *tables_extends(PyObject *self, PyObject *older) {
-    npss_answer a;
-    int yes = extension(self, older, &a);
-    return yes < 0 ? NULL : PyBool_FromLong(yes);
-}
-
-static PyObject *tables_first_break(PyObject *self, PyObject *older) {
-    npss_answer a;
-    int yes = extension(self, older, &a);
-    if (yes < 0) return NULL;
-    if (yes) Py_RETURN_NONE;
-    return break_of(((tables *)self)->state, a);
-}
-
 static PyObject *tables_count(PyObject *self, void *unused) {
     (void)unused;
     return PyLong_FromUnsignedLongLong(npss_count(&((tables *)self)->handle).length);
 }
 
-/* Asks once what is asked of each name. */
-static void ask_of_ascii(tables *self) {
+/* The forms under which each text of ASCII is its own key. */
+static uint64_t ask_of_ascii(npss_handle *handle) {
     static const uint8_t forms[] = {NPSS_NFD, NPSS_NFC, NPSS_NFKD, NPSS_NFKC};
+    uint64_t keeps = 0;
     for (size_t i = 0; i < sizeof forms; i++)
-        if (npss_keeps_ascii(&self->handle, forms[i]).status == NPSS_DONE) self->keeps_ascii |= bit_of(forms[i]);
+        if (npss_keeps_ascii(handle, forms[i]).status == NPSS_DONE) keeps |= bit_of(forms[i]);
+    return keeps;
+}
+
+/* What each character of ASCII folds to; whether that is ASCII, one character each. What folds to it doesn't fold again. */
+static int ask_of_foldings(npss_handle *handle, uint8_t folded[128]) {
+    for (uint32_t code = 0; code < 128; code++) {
+        npss_answer a = npss_folding(handle, code, &folded[code], 1);
+        if (a.status != NPSS_DONE || a.length != 1) return 0;
+    }
+    return 1;
+}
+
+/* Asks once what is asked of each name. A character that has one byte is ASCII. */
+static void ask_once(tables *self) {
+    const uint64_t all = bit_of(NPSS_NFD) | bit_of(NPSS_NFC) | bit_of(NPSS_NFKD) | bit_of(NPSS_NFKC);
+    self->keeps_ascii = ask_of_ascii(&self->handle);
+    self->folds_ascii = self->keeps_ascii == all && ask_of_foldings(&self->handle, self->folded);
+}
+
+/* The files of a version. */
+enum { DATA_FILE, EXCLUSIONS_FILE, FOLDING_FILE, FILES };
+
+/* The bytes of the files that were named; those of a folding file that wasn't have no owner. */
+static int take_files(const module_state *state, PyObject *const taken[FILES], bytes files[FILES]) {
+    int failed = 0;
+    for (int i = 0; i < FILES && !failed; i++) {
+        PyObject *file;
+        if (!taken[i] || (i == FOLDING_FILE && taken[i] == Py_None)) continue;
+        failed = !(file = PyObject_CallFunctionObjArgs(state->of[CONTENTS], taken[i], NULL)) || data_of(file, &files[i]);
+        Py_XDECREF(file);
+    }
+    return failed;
+}
+
+/* Opens a handle on the version of the files, without the interpreter's lock. */
+static npss_answer open_files(npss_handle *handle, const bytes files[FILES]) {
+    const bytes data = files[DATA_FILE], exclusions = files[EXCLUSIONS_FILE], folding = files[FOLDING_FILE];
+    npss_answer a;
+    Py_BEGIN_ALLOW_THREADS
+    a = folding.owner ? npss_open_caseless(handle, data.at, (size_t)data.length, exclusions.at, (size_t)exclusions.length,
+                                           folding.at, (size_t)folding.length)
+                      : npss_open(handle, data.at, (size_t)data.length, exclusions.at, (size_t)exclusions.length);
+    Py_END_ALLOW_THREADS
+    return a;
 }
 
 static PyObject *tables_open(PyObject *class, PyObject *const *given, Py_ssize_t count, PyObject *words) {
-    static const char *const names[] = {"data", "exclusions", NULL};
+    static const char *const names[] = {"data", "exclusions", "folding", NULL};
     const module_state *state = PyType_GetModuleState((PyTypeObject *)class);
     allocfunc alloc = (allocfunc)PyType_GetSlot((PyTypeObject *)class, Py_tp_alloc);
-    PyObject *taken[2], *data, *exclusions = NULL;
-    bytes d = {NULL, 0, NULL}, e = {NULL, 0, NULL};
+    PyObject *taken[FILES];
+    bytes files[FILES] = {{NULL, 0, NULL}, {NULL, 0, NULL}, {NULL, 0, NULL}};
     tables *made = NULL;
     npss_answer a;
     if (take(given, count, words, names, 2, taken)) return NULL;
-    data = PyObject_CallFunctionObjArgs(state->of[CONTENTS], taken[0], NULL);
-    if (data) exclusions = PyObject_CallFunctionObjArgs(state->of[CONTENTS], taken[1], NULL);
-    if (exclusions && !data_of(data, &d) && !data_of(exclusions, &e) &&
-        (made = (tables *)alloc((PyTypeObject *)class, 0))) { /* zeros: closed */
+    if (!take_files(state, taken, files) && (made = (tables *)alloc((PyTypeObject *)class, 0))) { /* zeros: closed */
         made->state = state;
-        Py_BEGIN_ALLOW_THREADS
-        a = npss_open(&made->handle, d.at, (size_t)d.length, e.at, (size_t)e.length);
-        Py_END_ALLOW_THREADS
+        a = open_files(&made->handle, files);
         if (a.status != NPSS_DONE) {
             refuse(state, a, NULL);
             Py_CLEAR(made);
         } else {
-            ask_of_ascii(made);
+            ask_once(made);
         }
     }
-    let_go(&d);
-    let_go(&e);
-    Py_XDECREF(data);
-    Py_XDECREF(exclusions);
+    for (int i = 0; i < FILES; i++) let_go(&files[i]);
     return (PyObject *)made;
 }
 
@@ -358,7 +231,7 @@ static PyObject *tables_open(PyObject *class, PyObject *const *given, Py_ssize_t
 static PyObject *tables_reduce(PyObject *self, PyObject *unused) {
     (void)self, (void)unused;
     return PyErr_Format(PyExc_TypeError,
-                        "a Tables isn't pickled: hand over the names of its two files, and call Tables.open there");
+                        "a Tables isn't pickled: hand over the names of its files, and call Tables.open there");
 }
 
 /* Tables never change, so a copy of them is they themselves. */
@@ -384,20 +257,23 @@ static void tables_dealloc(PyObject *self) {
 
 static PyMethodDef methods[] = {
     {"open", (PyCFunction)(void (*)(void))tables_open, METH_FASTCALL | METH_KEYWORDS | METH_CLASS,
-     "open($type, /, data, exclusions)\n--\n\nThe version of UnicodeData.txt and CompositionExclusions.txt.\n\nEach is "
-     "a path, or the bytes of the file. Raises BadTables where they make no version.\nTakes some 10 ms and 6 MB for "
-     "the published files."},
+     "open($type, /, data, exclusions, folding=None)\n--\n\nThe version of UnicodeData.txt, CompositionExclusions.txt and, for "
+     "caseless keys, CaseFolding.txt.\n\nEach is a path, or the bytes of the file, and all are of one version. Raises BadTables "
+     "where they make none.\nTakes some 10 ms and 6 MB for the published files, with CaseFolding.txt some\n25 ms and 9 MB."},
     {"key", FAST(tables_key),
-     "key($self, /, text, form='nfc')\n--\n\nThe key of a text: its stabilized string under the form.\n\nThe form is "
+     "key($self, /, text, form='nfc', caseless=False)\n--\n\nThe key of a text: its stabilized string under the form.\n\nThe form is "
      "'nfc', 'nfd', 'nfkc' or 'nfkd'. Raises Unassigned where the version does not\nassign a code point of the text, "
-     "and UnicodeEncodeError at a lone surrogate."},
+     "and UnicodeEncodeError at a lone surrogate.\n\nWith caseless=True it is the caseless key, which texts that differ by "
+     "case have alike. Make it of a text, or\nof its 'nfc' or 'nfd' key, and not of its 'nfkc' key. Raises NoFolding where the "
+     "tables have no CaseFolding.txt."},
     {"keys", FAST(tables_keys),
-     "keys($self, /, texts, form='nfc')\n--\n\nThe keys of several texts, a list. Raises as key does, at the first "
+     "keys($self, /, texts, form='nfc', caseless=False)\n--\n\nThe keys of several texts, a list. Raises as key does, at the first "
      "text that has none;\nUnassigned tells in `number` which, from 0."},
     {"answers", FAST(tables_answers),
-     "answers($self, /, lines, form='nfc', end=b'\\n')\n--\n\nThe answers to the lines of some bytes, which are told as "
+     "answers($self, /, lines, form='nfc', end=b'\\n', caseless=False)\n--\n\nThe answers to the lines of some bytes, which are told as "
      "bytes.\n\nThe end is b'\\n' or b'\\0'. The answer to a line is '=' and its key, or '!' and why it has none, and "
-     "then the\nend. A last line without an end is a line. No line makes the call fail: see docs/FORMATS.md."},
+     "then the\nend. A last line without an end is a line. No line makes the call fail: see docs/FORMATS.md.\n\nWith "
+     "caseless=True keys are caseless. Raises NoFolding where the tables have no CaseFolding.txt."},
     {"normalize", FAST(tables_normalize),
      "normalize($self, /, text, form='nfc')\n--\n\nThe normal form of a text, whether or not its code points are "
      "assigned."},
@@ -406,12 +282,19 @@ static PyMethodDef methods[] = {
     {"equivalent", FAST(tables_equivalent),
      "equivalent($self, /, left, right, compatible=False)\n--\n\nWhether two texts are canonical equivalents, or "
      "compatible ones where `compatible`."},
+    {"caseless_match", FAST(tables_caseless_match),
+     "caseless_match($self, /, left, right, compatible=False)\n--\n\nWhether two texts match caselessly: canonically, or "
+     "compatibly where `compatible`.\n\nTexts match exactly where their caseless keys are equal. Code points that are not "
+     "assigned are taken too.\nRaises NoFolding where the tables have no CaseFolding.txt."},
     {"property", tables_property, METH_O,
      "property($self, code, /)\n--\n\nWhat the version says of a code point, a Property. It is a number, or a str of one "
      "character."},
     {"decomposition", FAST(tables_decomposition),
      "decomposition($self, /, code, compatible=False)\n--\n\nThe full decomposition of a code point: the canonical one, or "
      "the compatible one.\n\nOf one that has no mapping it is the code point itself."},
+    {"folding", tables_folding, METH_O,
+     "folding($self, code, /)\n--\n\nWhat a code point folds to by itself, a str: mostly itself. None where the version does not "
+     "assign it.\n\nRaises NoFolding where the tables have no CaseFolding.txt."},
     {"composite", (PyCFunction)(void (*)(void))tables_composite, METH_FASTCALL,
      "composite($self, first, second, /)\n--\n\nThe primary composite of two code points; None where there is none."},
     {"first_unassigned", tables_first_unassigned, METH_O,
@@ -422,12 +305,13 @@ static PyMethodDef methods[] = {
     {"__copy__", tables_copy, METH_NOARGS, "__copy__($self, /)\n--\n\nItself, since it never changes."},
     {"__deepcopy__", tables_copy, METH_O, "__deepcopy__($self, memo, /)\n--\n\nItself, since it never changes."},
     {"__reduce__", tables_reduce, METH_NOARGS, "Raises TypeError: a Tables isn't pickled."},
-    {"extends", tables_extends, METH_O,
-     "extends($self, older, /)\n--\n\nWhether this version extends an older one, so that keys under the older one stay "
-     "keys."},
-    {"first_break", tables_first_break, METH_O,
-     "first_break($self, older, /)\n--\n\nWhat this version breaks of an older one at the least code point, a Break; "
-     "None where it\nextends the older one."},
+    {"extends", FAST(tables_extends),
+     "extends($self, /, older, caseless=False)\n--\n\nWhether this version extends an older one, so that keys under the older one stay "
+     "keys.\n\nWith caseless=True so that its caseless keys stay caseless keys: what it assigns also folds alike. Raises\nNoFolding "
+     "where one of the two has no CaseFolding.txt."},
+    {"first_break", FAST(tables_first_break),
+     "first_break($self, /, older, caseless=False)\n--\n\nWhat this version breaks of an older one at the least code point, a Break; "
+     "None where it\nextends the older one. With caseless=True its kind may be 'FoldingChanged' too."},
     {NULL, NULL, 0, NULL},
 };
 

@@ -6,7 +6,10 @@ use std::error::Error;
 use std::fmt;
 use std::io;
 
-/// Which of the two files of a version.
+/// What is said of tables that were opened without CaseFolding.txt.
+const NO_FOLDING: &str = "the tables were opened without CaseFolding.txt";
+
+/// Which of the files of a version.
 #[derive(Clone, Copy, Debug, PartialEq, Eq)]
 #[non_exhaustive]
 pub enum File {
@@ -14,6 +17,8 @@ pub enum File {
     Data,
     /// CompositionExclusions.txt.
     Exclusions,
+    /// CaseFolding.txt.
+    Folding,
 }
 
 impl fmt::Display for File {
@@ -21,11 +26,12 @@ impl fmt::Display for File {
         f.write_str(match self {
             File::Data => "data",
             File::Exclusions => "exclusions",
+            File::Folding => "folding",
         })
     }
 }
 
-/// Why two files make no version. The names of faults are those of `docs/FORMATS.md`.
+/// Why the files make no version. The names of faults are those of `docs/FORMATS.md`.
 #[derive(Clone, Copy, Debug, PartialEq, Eq)]
 #[non_exhaustive]
 pub enum OpenError {
@@ -43,11 +49,18 @@ pub enum OpenError {
         /// The file.
         file: File,
     },
-    /// The tables that the files make have a fault at a code point.
+    /// The tables that the first two files make have a fault at a code point.
     Tables {
         /// The code point.
         code: u32,
         /// The name of the fault, like `TooDeep`.
+        name: &'static str,
+    },
+    /// The version has a fault with the foldings of the third file at a code point, as where they are of two versions.
+    Foldings {
+        /// The code point.
+        code: u32,
+        /// The name of the fault, like `NotFolded`.
         name: &'static str,
     },
     /// Memory ran out.
@@ -60,6 +73,7 @@ impl fmt::Display for OpenError {
             OpenError::File { file, line, name } => write!(f, "{file}: line {line}: {name}"),
             OpenError::TooLarge { file } => write!(f, "{file}: TooLarge"),
             OpenError::Tables { code, name } => write!(f, "tables: {name} {code:04X}"),
+            OpenError::Foldings { code, name } => write!(f, "folding: {name} {code:04X}"),
             OpenError::Memory => f.write_str("out of memory"),
         }
     }
@@ -78,8 +92,24 @@ pub enum KeyError {
         /// That code point.
         code: char,
     },
+    /// Of a caseless key: the tables were opened without CaseFolding.txt.
+    NoFolding,
     /// Memory ran out.
     Memory,
+}
+
+impl KeyError {
+    /// What the library's answer tells.
+    pub(crate) fn of(a: Answer) -> KeyError {
+        match (a.status, char::from_u32(a.code)) {
+            (raw::UNASSIGNED, Some(code)) => KeyError::Unassigned {
+                at: a.place as usize,
+                code,
+            },
+            (raw::NO_FOLDING, _) => KeyError::NoFolding,
+            _ => KeyError::Memory,
+        }
+    }
 }
 
 impl fmt::Display for KeyError {
@@ -88,12 +118,68 @@ impl fmt::Display for KeyError {
             KeyError::Unassigned { at, code } => {
                 write!(f, "unassigned {:04X} at byte {at}", u32::from(*code))
             }
+            KeyError::NoFolding => f.write_str(NO_FOLDING),
             KeyError::Memory => f.write_str("out of memory"),
         }
     }
 }
 
 impl Error for KeyError {}
+
+/// Why there is no answer to a question on case, nor to lines.
+#[derive(Clone, Copy, Debug, PartialEq, Eq)]
+#[non_exhaustive]
+pub enum CaselessError {
+    /// The tables were opened without CaseFolding.txt.
+    NoFolding,
+    /// Memory ran out.
+    Memory,
+}
+
+impl CaselessError {
+    /// What the library's answer tells.
+    pub(crate) fn of(a: Answer) -> CaselessError {
+        match a.status {
+            raw::NO_FOLDING => CaselessError::NoFolding,
+            _ => CaselessError::Memory,
+        }
+    }
+}
+
+impl fmt::Display for CaselessError {
+    fn fmt(&self, f: &mut fmt::Formatter<'_>) -> fmt::Result {
+        f.write_str(match self {
+            CaselessError::NoFolding => NO_FOLDING,
+            CaselessError::Memory => "out of memory",
+        })
+    }
+}
+
+impl Error for CaselessError {}
+
+/// Why a version with its foldings does not extend another.
+#[derive(Clone, Copy, Debug, PartialEq, Eq)]
+#[non_exhaustive]
+pub enum ExtensionError {
+    /// Its first break.
+    Breaks(Break),
+    /// One of the two was opened without CaseFolding.txt.
+    NoFolding,
+    /// Memory ran out.
+    Memory,
+}
+
+impl fmt::Display for ExtensionError {
+    fn fmt(&self, f: &mut fmt::Formatter<'_>) -> fmt::Result {
+        match self {
+            ExtensionError::Breaks(first) => write!(f, "{:?} {:04X}", first.kind, first.code),
+            ExtensionError::NoFolding => f.write_str(NO_FOLDING),
+            ExtensionError::Memory => f.write_str("out of memory"),
+        }
+    }
+}
+
+impl Error for ExtensionError {}
 
 /// Memory ran out.
 #[derive(Clone, Copy, Debug, PartialEq, Eq)]

@@ -18,12 +18,16 @@
 //! # Ok::<(), Box<dyn std::error::Error>>(())
 //! ```
 //!
+//! With CaseFolding.txt beside the two files, texts that differ by case have one key, which is as stable:
+//! [`Tables::open_caseless`].
+//!
 //! A [`Tables`] serves all threads at once: put it into an `Arc`, or share it by reference. A [`Node`] keeps strings beside
 //! their keys, tells them to other nodes by messages, and survives upgrades and restarts.
 #![warn(missing_docs)]
 
 mod errors;
 mod nodes;
+mod opening;
 mod pool;
 #[allow(missing_docs)]
 mod raw;
@@ -32,8 +36,8 @@ mod tables;
 mod values;
 
 pub use errors::{
-    File, KeyError, Memory, NewNodeError, OpenError, Refused, RestoreError, StreamError,
-    UpgradeError,
+    CaselessError, ExtensionError, File, KeyError, Memory, NewNodeError, OpenError, Refused,
+    RestoreError, StreamError, UpgradeError,
 };
 pub use nodes::{Accepted, Entry, Node, MOST_ROOM};
 pub use streams::{Normalizer, Stream};

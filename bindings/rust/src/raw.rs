@@ -49,6 +49,9 @@ pub const KEY_DIFFERS: u32 = 19;
 pub const OLDER_TABLES: u32 = 20;
 pub const BAD_ENTRY: u32 = 21;
 pub const BAD_ROOM: u32 = 22;
+pub const FOLDING: u32 = 24;
+pub const FOLDINGS: u32 = 25;
+pub const NO_FOLDING: u32 = 26;
 
 extern "C" {
     pub fn npss_open(
@@ -57,6 +60,15 @@ extern "C" {
         data_length: usize,
         exclusions: *const u8,
         exclusions_length: usize,
+    ) -> Answer;
+    pub fn npss_open_caseless(
+        handle: *mut Handle,
+        data: *const u8,
+        data_length: usize,
+        exclusions: *const u8,
+        exclusions_length: usize,
+        folding: *const u8,
+        folding_length: usize,
     ) -> Answer;
     pub fn npss_share(handle: *mut Handle, other: *mut Handle) -> Answer;
     pub fn npss_key(
@@ -75,7 +87,23 @@ extern "C" {
         room: *mut u8,
         room_length: usize,
     ) -> Answer;
+    pub fn npss_caseless_key(
+        handle: *mut Handle,
+        form: u8,
+        text: *const u8,
+        text_length: usize,
+        room: *mut u8,
+        room_length: usize,
+    ) -> Answer;
     pub fn npss_answers(
+        handle: *mut Handle,
+        asked: *const Asked,
+        text: *const u8,
+        text_length: usize,
+        room: *mut u8,
+        room_length: usize,
+    ) -> Answer;
+    pub fn npss_caseless_answers(
         handle: *mut Handle,
         asked: *const Asked,
         text: *const u8,
@@ -98,7 +126,16 @@ extern "C" {
         right: *const u8,
         right_length: usize,
     ) -> Answer;
+    pub fn npss_caseless_match(
+        handle: *mut Handle,
+        compat: bool,
+        left: *const u8,
+        left_length: usize,
+        right: *const u8,
+        right_length: usize,
+    ) -> Answer;
     pub fn npss_extends(older: *mut Handle, newer: *mut Handle) -> Answer;
+    pub fn npss_caseless_extends(older: *mut Handle, newer: *mut Handle) -> Answer;
     pub fn npss_count(handle: *mut Handle) -> Answer;
     pub fn npss_close(handle: *mut Handle);
     pub fn npss_property(handle: *mut Handle, code: u32) -> Answer;

@@ -1,6 +1,7 @@
 //! The tables of a version.
 
-use crate::errors::{File, KeyError, Memory, OpenError};
+use crate::errors::{CaselessError, ExtensionError, KeyError, Memory, OpenError};
+use crate::opening::open_error;
 use crate::pool::Pool;
 use crate::raw::{self, Answer, Handle};
 use crate::values::{Answers, Break, BreakKind, Form, LineEnd, Mapping, Property, Unassigned};
@@ -23,56 +24,26 @@ impl fmt::Debug for Tables {
 /// A call that writes what it makes of a text into a room.
 type Writer = unsafe extern "C" fn(*mut Handle, u8, *const u8, usize, *mut u8, usize) -> Answer;
 
-const FILE_FAULTS: [&str; 11] = [
-    "",
-    "FieldCount",
-    "BadCode",
-    "OutOfOrder",
-    "BadCategory",
-    "BadClass",
-    "BadMapping",
-    "RangeOpen",
-    "RangeLone",
-    "RangeDiffers",
-    "RangeMaps",
-];
-
-const TABLE_FAULTS: [&str; 6] = [
-    "",
-    "MapsToUnassigned",
-    "TooDeep",
-    "TooLong",
-    "AmbiguousPair",
-    "HangulWrong",
-];
-
-fn open_error(a: Answer) -> OpenError {
-    let fault = a.fault as usize;
-    match a.status {
-        raw::DATA => OpenError::File {
-            file: File::Data,
-            line: a.place,
-            name: FILE_FAULTS[fault],
-        },
-        raw::EXCLUSIONS => OpenError::File {
-            file: File::Exclusions,
-            line: a.place,
-            name: FILE_FAULTS[fault],
-        },
-        raw::TABLES => OpenError::Tables {
-            code: a.code,
-            name: TABLE_FAULTS[fault],
-        },
-        raw::TOO_LARGE => OpenError::TooLarge {
-            file: if a.fault == 1 {
-                File::Data
-            } else {
-                File::Exclusions
-            },
-        },
-        _ => OpenError::Memory,
+/// The tables behind a handle that was opened, or why it wasn't.
+fn opened(first: Handle, a: Answer) -> Result<Tables, OpenError> {
+    if a.status == raw::DONE {
+        Pool::new(first)
+            .map(|pool| Tables { pool })
+            .map_err(|_| OpenError::Memory)
+    } else {
+        Err(open_error(a))
     }
 }
+
+/// A call that writes the answers to lines into a room.
+type Answerer = unsafe extern "C" fn(
+    *mut Handle,
+    *const raw::Asked,
+    *const u8,
+    usize,
+    *mut u8,
+    usize,
+) -> Answer;
 
 /// What a call writes into a room, first into one of so many bytes and then into one of as many as it tells.
 pub(crate) fn filled(
@@ -128,13 +99,49 @@ impl Tables {
                 exclusions.len(),
             )
         };
-        if a.status == raw::DONE {
-            Pool::new(first)
-                .map(|pool| Tables { pool })
-                .map_err(|_| OpenError::Memory)
-        } else {
-            Err(open_error(a))
-        }
+        opened(first, a)
+    }
+
+    /// The version of two files with the foldings of CaseFolding.txt, for caseless keys. The three are of one version. Takes
+    /// 12 to 25 ms for the published files, and holds 6 MB.
+    ///
+    /// # Errors
+    ///
+    /// As [`Tables::open`]; else the first fault of the lines of the third file; else `Foldings`, where it doesn't go with
+    /// the others.
+    ///
+    /// ```
+    /// use npss::{Form, Tables};
+    ///
+    /// let data = b"0041;X;Lu;0;L;;;;;N;;;;0061;\n0061;X;Ll;0;L;;;;;N;;;0041;;0041\n";
+    /// let tables = Tables::open_caseless(data, b"", b"0041; C; 0061;\n")?;
+    /// assert_eq!(tables.caseless_key(Form::Nfkc, "A")?, "a");
+    /// assert_eq!(tables.caseless_match(false, "A", "a"), Ok(true));
+    ///
+    /// // a folding file that was cut lacks capitals
+    /// let error = Tables::open_caseless(data, b"", b"").unwrap_err();
+    /// assert_eq!(error.to_string(), "folding: NotFolded 0041");
+    /// # Ok::<(), Box<dyn std::error::Error>>(())
+    /// ```
+    pub fn open_caseless(
+        data: &[u8],
+        exclusions: &[u8],
+        folding: &[u8],
+    ) -> Result<Tables, OpenError> {
+        let mut first = Handle::CLOSED;
+        // SAFETY: the slices are readable, and the handle is closed.
+        let a = unsafe {
+            raw::npss_open_caseless(
+                &mut first,
+                data.as_ptr(),
+                data.len(),
+                exclusions.as_ptr(),
+                exclusions.len(),
+                folding.as_ptr(),
+                folding.len(),
+            )
+        };
+        opened(first, a)
     }
 
     /// The same tables once more: both share one table. There is no need of it for threads, since one `Tables` serves
@@ -172,14 +179,20 @@ impl Tables {
     ///
     /// `Unassigned` exactly where the version does not assign a code point of the text; `Memory` where memory ran out.
     pub fn key(&self, form: Form, text: &str) -> Result<String, KeyError> {
-        self.make(raw::npss_key, form, text)
-            .map_err(|a| match char::from_u32(a.code) {
-                Some(code) if a.status == raw::UNASSIGNED => KeyError::Unassigned {
-                    at: a.place as usize,
-                    code,
-                },
-                _ => KeyError::Memory,
-            })
+        self.make(raw::npss_key, form, text).map_err(KeyError::of)
+    }
+
+    /// The caseless key of a text: texts that match caselessly have one, and it stays the same under each later version that
+    /// extends this one with its foldings (The Unicode Standard, D145, and D146 under NFKD and NFKC). It is made of a text, or
+    /// of its NFC or NFD key; the NFKC key may have another.
+    ///
+    /// # Errors
+    ///
+    /// `Unassigned` exactly where the version does not assign a code point of the text; `NoFolding` where the tables have no
+    /// foldings; `Memory` where memory ran out.
+    pub fn caseless_key(&self, form: Form, text: &str) -> Result<String, KeyError> {
+        self.make(raw::npss_caseless_key, form, text)
+            .map_err(KeyError::of)
     }
 
     /// The normal form of a text, whether or not its code points are assigned.
@@ -208,23 +221,47 @@ impl Tables {
     /// # Ok::<(), Box<dyn std::error::Error>>(())
     /// ```
     pub fn answers(&self, form: Form, end: LineEnd, lines: &[u8]) -> Result<Answers, Memory> {
+        self.answered(raw::npss_answers, form, end, lines)
+            .map_err(|_| Memory)
+    }
+
+    /// The answers to the lines of some bytes, as [`Tables::answers`] has them, by their caseless keys.
+    ///
+    /// # Errors
+    ///
+    /// `NoFolding` where the tables have no foldings; `Memory` where memory ran out.
+    pub fn caseless_answers(
+        &self,
+        form: Form,
+        end: LineEnd,
+        lines: &[u8],
+    ) -> Result<Answers, CaselessError> {
+        self.answered(raw::npss_caseless_answers, form, end, lines)
+            .map_err(CaselessError::of)
+    }
+
+    /// What a call answers to lines.
+    fn answered(
+        &self,
+        write: Answerer,
+        form: Form,
+        end: LineEnd,
+        lines: &[u8],
+    ) -> Result<Answers, Answer> {
         let asked = raw::Asked {
             form: form.letter(),
             end: end.byte(),
         };
-        let made = filled(lines.len() + lines.len() / 2, |room, length| {
+        let (bytes, a) = filled(lines.len() + lines.len() / 2, |room, length| {
             // SAFETY: the lines are readable and the room writable, and they don't overlap.
             self.pool.call(|handle| unsafe {
-                raw::npss_answers(handle, &asked, lines.as_ptr(), lines.len(), room, length)
+                write(handle, &asked, lines.as_ptr(), lines.len(), room, length)
             })
-        });
-        match made {
-            Ok((bytes, a)) => Ok(Answers {
-                bytes,
-                any_refused: a.fault != 0,
-            }),
-            Err(_) => Err(Memory),
-        }
+        })?;
+        Ok(Answers {
+            bytes,
+            any_refused: a.fault != 0,
+        })
     }
 
     /// Whether a text is its own normal form.
@@ -281,6 +318,32 @@ impl Tables {
         }))
     }
 
+    /// Whether two texts match caselessly: compatibly where `compatible`, else canonically. They do exactly where their caseless
+    /// keys are equal. Code points that are not assigned are taken too.
+    ///
+    /// # Errors
+    ///
+    /// `NoFolding` where the tables have no foldings; `Memory` where memory ran out.
+    pub fn caseless_match(
+        &self,
+        compatible: bool,
+        left: &str,
+        right: &str,
+    ) -> Result<bool, CaselessError> {
+        // SAFETY: the texts are readable.
+        let a = self.pool.call(|handle| unsafe {
+            raw::npss_caseless_match(
+                handle,
+                compatible,
+                left.as_ptr(),
+                left.len(),
+                right.as_ptr(),
+                right.len(),
+            )
+        });
+        told(a).map_err(|_| CaselessError::of(a))
+    }
+
     /// What this version breaks of an older one at the least code point. `None` where it extends the older one, so
     /// that keys under the older one stay keys.
     pub fn first_break(&self, older: &Tables) -> Option<Break> {
@@ -293,6 +356,31 @@ impl Tables {
                 .pool
                 .call(|old| self.pool.call(|new| unsafe { raw::npss_extends(old, new) })),
         )
+    }
+
+    /// Whether this version with its foldings extends an older one with its own, so that caseless keys under the older one stay
+    /// caseless keys.
+    ///
+    /// # Errors
+    ///
+    /// `Breaks` with what it breaks at the least code point; `NoFolding` where one of the two has no foldings; `Memory` where
+    /// memory ran out.
+    pub fn caseless_extends(&self, older: &Tables) -> Result<(), ExtensionError> {
+        if std::ptr::eq(self, older) {
+            let own = self.share().map_err(|_| ExtensionError::Memory)?;
+            return self.caseless_extends(&own);
+        }
+        // SAFETY: both handles are ours, and they are two: those of two pools.
+        let a = older.pool.call(|old| {
+            self.pool
+                .call(|new| unsafe { raw::npss_caseless_extends(old, new) })
+        });
+        match (a.status, break_of(a)) {
+            (raw::DONE, _) => Ok(()),
+            (raw::NO_FOLDING, _) => Err(ExtensionError::NoFolding),
+            (_, Some(first)) => Err(ExtensionError::Breaks(first)),
+            _ => Err(ExtensionError::Memory),
+        }
     }
 
     /// What the version says of a code point; none where it does not assign it.
@@ -394,7 +482,8 @@ pub(crate) fn break_of(a: Answer) -> Option<Break> {
         (raw::DIFFERENT, 3) => BreakKind::MappingChanged,
         (raw::DIFFERENT, 4) => BreakKind::NowExcluded,
         (raw::DIFFERENT, 5) => BreakKind::NowIncluded,
-        (raw::DIFFERENT, _) => BreakKind::NewComposite,
+        (raw::DIFFERENT, 6) => BreakKind::NewComposite,
+        (raw::DIFFERENT, _) => BreakKind::FoldingChanged,
         _ => return None,
     };
     Some(Break { kind, code: a.code })

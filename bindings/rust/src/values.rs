@@ -120,6 +120,8 @@ pub enum BreakKind {
     NowIncluded,
     /// A primary composite of the newer version that the older one does not assign, of parts that it does.
     NewComposite,
+    /// Of versions with their foldings: assigned in both, with unlike foldings.
+    FoldingChanged,
 }
 
 /// What a newer version breaks of an older one, at a code point.

@@ -1,8 +1,13 @@
 pub mod Answers
 pub mod Ascii
+pub mod Caseless
 pub mod Codes
 pub mod Contents
 pub mod Files
+pub mod FoldingCodes
+pub mod FoldingExtension
+pub mod FoldingFiles
+pub mod Foldings
 pub mod Lines
 pub mod NodeOpening
 pub mod NodeReading

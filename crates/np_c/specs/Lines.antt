@@ -1,5 +1,7 @@
 -- The answers to lines, as C asks for them.
 use Rattle.std.specs.Prelude.{◌≡◌, ◌⊎◌, ℕ, Bool, true, false, List}
+use Rattle.np_caseless.specs.Folded.{FoldedVersion}
+use Rattle.np_caseless_lines.specs.CaselessAnswers.{IsAllAnsweredCaselessly}
 use Rattle.np_code_points.specs.Forms.{byte_of}
 use Rattle.np_code_points.specs.declared.forms.Form.{Form}
 use Rattle.np_lines.specs.declared.lines.LineEnd.{LineEnd}
@@ -27,11 +29,11 @@ abbrev pub refused_number : Bool → ℕ
 refused_number false = 0
 refused_number true = 1
 
--- the answers to all lines are put into the room; where they have no room too it is told whether a line was refused
-pub record AreAnswersPut (v : VersionData) (wanted : Wanted) (bytes before after : List ℕ) (a : Answer) : Type 0 where
+-- these answers are put into the room; where they have no room too it is told whether a line was refused
+pub record AreAnswersPut (IsAll : List ℕ → Bool → Type 0) (before after : List ℕ) (a : Answer) : Type 0 where
   pub made : List ℕ
   pub any_refused : Bool
-  pub all : IsAllAnswered v wanted bytes made any_refused
+  pub all : IsAll made any_refused
   pub put : IsPut made before after a
   pub told : a ≡ record { status = a.status; fault = refused_number any_refused; code = 0; place = 0; length = a.length }
 
@@ -40,10 +42,18 @@ pub record LacksMemory (before after : List ℕ) (a : Answer) : Type 0 where
   pub told : a ≡ alone 4
   pub room : after ≡ before
 
--- `npss_answers`: the letter is that of a form, the byte ends lines, and the answers to all lines are put into the room
-abbrev pub IsAnswersAnswer : VersionData → Asked → List ℕ → List ℕ → List ℕ → Answer → Type 0
-IsAnswersAnswer v asked bytes before after a =
+-- the letter is that of a form, the byte ends lines, and the answers to all lines are put into the room
+abbrev pub IsLinesAnswer : (Wanted → List ℕ → Bool → Type 0) → Asked → List ℕ → List ℕ → Answer → Type 0
+IsLinesAnswer IsAll asked before after a =
     LacksForm asked.form before after a
     ⊎ ((form : Form) × (asked.form ≡ byte_of form) × (LacksEnd asked.end before after a
-    ⊎ ((end : LineEnd) × (asked.end ≡ line.byte_of end) × (AreAnswersPut v (record { form = form; end = end }) bytes before after a
+    ⊎ ((end : LineEnd) × (asked.end ≡ line.byte_of end) × (AreAnswersPut (IsAll (record { form = form; end = end })) before after a
     ⊎ LacksMemory before after a))))
+
+-- `npss_answers`
+abbrev pub IsAnswersAnswer : VersionData → Asked → List ℕ → List ℕ → List ℕ → Answer → Type 0
+IsAnswersAnswer v asked bytes before after a = IsLinesAnswer (λ wanted. IsAllAnswered v wanted bytes) asked before after a
+
+-- `npss_caseless_answers`: the same with caseless keys
+abbrev pub IsCaselessAnswersAnswer : FoldedVersion → Asked → List ℕ → List ℕ → List ℕ → Answer → Type 0
+IsCaselessAnswersAnswer v asked bytes before after a = IsLinesAnswer (λ wanted. IsAllAnsweredCaselessly v wanted bytes) asked before after a

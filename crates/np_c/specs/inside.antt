@@ -1,3 +1,5 @@
 pub mod FaultAnswers
+pub mod FoldingSteps
 pub mod Owned
+pub mod Questions
 pub mod Streams

@@ -49,6 +49,12 @@ pub const BAD_ENTRY: u32 = 21;
 pub const BAD_ROOM: u32 = 22;
 /// The number is no code point.
 pub const NO_CODE: u32 = 23;
+/// CaseFolding.txt has a fault.
+pub const FOLDING: u32 = 24;
+/// The version has a fault with its foldings.
+pub const FOLDINGS: u32 = 25;
+/// The handle was opened without CaseFolding.txt.
+pub const NO_FOLDING: u32 = 26;
 
 /// How a call ended. What a status has no use for is 0.
 #[repr(C)]
@@ -56,7 +62,7 @@ pub const NO_CODE: u32 = 23;
 pub struct Answer {
     /// One of the numbers above.
     pub status: u32,
-    /// The number of a fault or of a break, or which of two files or texts is meant, from 1; 1 where a line was
+    /// The number of a fault or of a break, or which of the files or texts is meant, from 1; 1 where a line was
     /// refused; or the status of an entry's refusal.
     pub fault: u32,
     /// A code point.

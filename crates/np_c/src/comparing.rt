@@ -77,7 +77,7 @@ pub fn tell_equivalent<T: NormTable>(
 }
 
 /// The number of a kind of break.
-fn kind_number(kind: BreakKind) -> u32
+pub fn kind_number(kind: BreakKind) -> u32
     ensures { result ≡ number_of kind }
 {
     match kind {

@@ -6,6 +6,7 @@ ghost use Rattle.np_c.specs.Answers.{IsEquivalentAnswer, IsExtensionAnswer, IsFo
 ghost use Rattle.np_c.specs.Ascii.{IsAsciiAnswer};
 ghost use Rattle.np_c.specs.Lines.{IsAnswersAnswer};
 ghost use Rattle.np_c.specs.Contents.{Holds};
+ghost use Rattle.np_c.specs.Foldings.{folded_of};
 ghost use Rattle.np_c.specs.Statuses.{alone, with_length};
 ghost use Rattle.np_c.specs.Versions.{content_of, version_of};
 
@@ -26,7 +27,8 @@ pub extern "C" fn npss_open(
     data_file: &[u8],
     exclusions_file: &[u8],
 ) -> Answer
-    ensures { Holds (λ opened. IsOpenAnswer data_file.now exclusions_file.now opened result) (content_of handle.old) (content_of handle.new) }
+    ensures opened { Holds (λ opened. IsOpenAnswer data_file.now exclusions_file.now opened result) (content_of handle.old) (content_of handle.new) }
+    ensures unfolded { result ≡ alone 0 → folded_of handle.new ≡ None }
 {
     match shared_of(alloc, data_file, exclusions_file) {
         Ok(content) => {
@@ -43,6 +45,7 @@ pub extern "C" fn npss_open(
 pub extern "C" fn npss_share(alloc: Global, handle: &mut Handle, other: &mut Handle) -> Answer
     ensures same { content_of handle.new ≡ content_of handle.old }
     ensures shared { IfSome (version_of handle.old) (λ v. Holds (λ opened. IsShareAnswer v opened result) (content_of other.old) (content_of other.new)) }
+    ensures folded { result ≡ alone 0 → folded_of other.new ≡ folded_of handle.old }
     ensures closed { version_of handle.old ≡ None → (result ≡ alone 5) × (content_of other.new ≡ content_of other.old) }
 {
     match handle.take_table(alloc) {

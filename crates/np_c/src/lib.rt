@@ -4,11 +4,17 @@
 
 mod answers;
 mod apart;
+mod caseless;
+mod caseless_exports;
 mod code_exports;
 mod comparing;
 mod content;
 mod exports;
+mod fault_answers;
 mod first_unassigned;
+mod folding_codes;
+mod folding_extension;
+mod folding_opening;
 mod handles;
 mod held;
 mod keeping;
@@ -24,6 +30,7 @@ mod opening;
 mod properties;
 mod room;
 mod shared;
+mod shared_table;
 mod stream_exports;
 mod stream_opening;
 mod texts;

@@ -1,13 +1,16 @@
 //! Answers to lines, into room that the caller lends.
-ghost use Rattle.std.specs.Prelude.{◌≡◌, IfNone, IfSome};
+ghost use Rattle.std.specs.Prelude.{◌≡◌, IfNone, IfSome, IfOk, IfErr};
 ghost use Rattle.np_lines.specs.Lines.{byte_of};
 ghost use Rattle.np_c.specs.Answers.{IsPut};
-ghost use Rattle.np_c.specs.Lines.{IsAnswersAnswer, IsLineByte, refused_number};
+ghost use Rattle.np_c.specs.Lines.{IsAnswersAnswer, IsCaselessAnswersAnswer, IsLineByte, refused_number};
+ghost use Rattle.np_c.specs.inside.Questions.{IsNoQuestion, IsWanted};
 
 use crate::answers::{Answer, MEMORY, NO_END, NO_FORM};
 use crate::room::put;
 use crate::texts::form_in;
-use np_lines::{Answers, LineEnd, Wanted, answer_bytes};
+use np_caseless::FoldedTable;
+use np_caseless_lines::CaselessKeys;
+use np_lines::{Answers, LineEnd, Wanted, answer_bytes, answer_bytes_by};
 use np_versions::NormTable;
 use std::alloc::Global;
 
@@ -44,6 +47,24 @@ fn put_answers(answers: &Answers, room: &mut [u8]) -> Answer
     }
 }
 
+/// What is asked of lines.
+///
+/// # Errors
+///
+/// The answer that tells why nothing is.
+fn wanted_of(asked: &Asked) -> Result<Wanted, Answer>
+    ensures wanted { IfOk result (IsWanted asked.now) }
+    ensures refused { IfErr result (IsNoQuestion asked.now) }
+{
+    let Some(form) = form_in(asked.form) else {
+        return Err(Answer::of(NO_FORM));
+    };
+    let Some(end) = end_in(asked.end) else {
+        return Err(Answer::of(NO_END));
+    };
+    Ok(Wanted { form, end })
+}
+
 /// Writes the answers to the lines of bytes into the room.
 pub fn write_answers<T: NormTable>(
     alloc: Global,
@@ -54,13 +75,35 @@ pub fn write_answers<T: NormTable>(
 ) -> Answer
     ensures { IsAnswersAnswer (T.model table.now) asked.now bytes.now room.old room.new result }
 {
-    let Some(form) = form_in(asked.form) else {
-        return Answer::of(NO_FORM);
+    let wanted = match wanted_of(asked) {
+        Ok(wanted) => wanted,
+        Err(answer) => return answer,
     };
-    let Some(end) = end_in(asked.end) else {
-        return Answer::of(NO_END);
+    match answer_bytes(alloc, table, wanted, bytes) {
+        Ok(answers) => put_answers(&answers, room),
+        Err(_) => Answer::of(MEMORY),
+    }
+}
+
+/// Writes the answers to the lines of bytes into the room, by their caseless keys.
+pub fn write_caseless_answers<T: NormTable + Drop>(
+    alloc: Global,
+    folded: &FoldedTable<T>,
+    asked: &Asked,
+    bytes: &[u8],
+    room: &mut [u8],
+) -> Answer
+    ensures { IsCaselessAnswersAnswer folded.now asked.now bytes.now room.old room.new result }
+{
+    let wanted = match wanted_of(asked) {
+        Ok(wanted) => wanted,
+        Err(answer) => return answer,
     };
-    match answer_bytes(alloc, table, Wanted { form, end }, bytes) {
+    let keys = CaselessKeys {
+        folded,
+        form: wanted.form,
+    };
+    match answer_bytes_by(alloc, &keys, wanted.end, bytes) {
         Ok(answers) => put_answers(&answers, room),
         Err(_) => Answer::of(MEMORY),
     }

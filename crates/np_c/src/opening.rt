@@ -1,5 +1,5 @@
 //! The table of two files, from their bytes.
-ghost use Rattle.std.specs.Prelude.{◌≡◌, ◌↔◌, ℕ, true, Some, IfOk, IfErr};
+ghost use Rattle.std.specs.Prelude.{◌≡◌, ◌↔◌, ℕ, true, Some, None, IfOk, IfErr};
 ghost use Rattle.std.specs.Arc.{arc_value};
 ghost use Rattle.np_ucd.specs.AllRows.{AreAllRows};
 ghost use Rattle.np_ucd.specs.Exclusions.{AreReadable, IsFirstBadLine, IsListedIn};
@@ -7,80 +7,24 @@ ghost use Rattle.np_ucd.specs.FirstFaults.{HasNoFault, IsFirstFault};
 ghost use Rattle.np_ucd.specs.Listed.{is_listed};
 ghost use Rattle.np_c.specs.Files.{Fits, IsFileRefused, IsNoVersion, IsVersionOf};
 ghost use Rattle.np_versions.specs.Versions.{VersionData};
+ghost use Rattle.np_c.specs.Foldings.{folded_in, folded_shared};
 ghost use Rattle.np_c.specs.Versions.{version_in};
-ghost use Rattle.np_c.specs.inside.FaultAnswers.{at_line, at_code, file_answer, tables_answer};
 
-use crate::answers::{Answer, DATA, EXCLUSIONS, MEMORY, TABLES, TOO_LARGE};
+use crate::answers::{Answer, DATA, EXCLUSIONS, MEMORY};
 use crate::content::Content;
+use crate::fault_answers::{of_file, of_tables};
 use crate::shared::Shared;
 use np_code_points::Memory;
 use np_code_points::watched::Watched;
 use np_tables::PageTable;
-use np_ucd::{Exclusions, RowList, UcdFault, read_exclusions, read_row_list};
-use np_versions::{TableFault, Version};
+use np_ucd::{Exclusions, RowList, read_exclusions, read_row_list};
+use np_versions::Version;
 use std::alloc::Global;
 
-/// The data file is the first of the two, and the exclusions file the second.
+/// The data file is the first, and the exclusions file the second.
 const FIRST: u32 = 1;
 
 const SECOND: u32 = 2;
-
-/// The answer that tells a fault of a file at a line.
-fn of_line(status: u32, fault: u32, line: u64) -> Answer
-    ensures { result ≡ at_line status fault line }
-{
-    Answer {
-        fault,
-        place: line,
-        ..Answer::of(status)
-    }
-}
-
-/// The answer that tells the fault of a file, which is the first or the second. Bytes in memory are read
-/// without a failure, which would be told as want of memory.
-fn of_file(status: u32, number: u32, fault: UcdFault) -> Answer
-    ensures { result ≡ file_answer status number fault }
-{
-    match fault {
-        UcdFault::FieldCount { line } => of_line(status, 1, line),
-        UcdFault::BadCode { line } => of_line(status, 2, line),
-        UcdFault::OutOfOrder { line } => of_line(status, 3, line),
-        UcdFault::BadCategory { line } => of_line(status, 4, line),
-        UcdFault::BadClass { line } => of_line(status, 5, line),
-        UcdFault::BadMapping { line } => of_line(status, 6, line),
-        UcdFault::RangeOpen { line } => of_line(status, 7, line),
-        UcdFault::RangeLone { line } => of_line(status, 8, line),
-        UcdFault::RangeDiffers { line } => of_line(status, 9, line),
-        UcdFault::RangeMaps { line } => of_line(status, 10, line),
-        UcdFault::TooLarge => of_line(TOO_LARGE, number, 0),
-        UcdFault::ReadFailed | UcdFault::Memory => Answer::of(MEMORY),
-    }
-}
-
-/// The answer that tells a fault of tables at a code point.
-fn of_code(fault: u32, code: u32) -> Answer
-    ensures { result ≡ at_code fault code }
-{
-    Answer {
-        fault,
-        code,
-        ..Answer::of(TABLES)
-    }
-}
-
-/// The answer that tells the fault of tables.
-fn of_tables(fault: TableFault) -> Answer
-    ensures { result ≡ tables_answer fault }
-{
-    match fault {
-        TableFault::MapsToUnassigned { code } => of_code(1, code),
-        TableFault::TooDeep { code } => of_code(2, code),
-        TableFault::TooLong { code } => of_code(3, code),
-        TableFault::AmbiguousPair { code } => of_code(4, code),
-        TableFault::HangulWrong { code } => of_code(5, code),
-        TableFault::Memory => Answer::of(MEMORY),
-    }
-}
 
 /// The rows of a data file.
 fn rows_in(alloc: Global, bytes: &[u8]) -> Result<RowList, Answer>
@@ -111,7 +55,11 @@ fn listed_in(alloc: Global, bytes: &[u8]) -> Result<Exclusions, Answer>
 /// # Errors
 ///
 /// The answer that tells why there is none.
-fn version_of(alloc: Global, data_file: &[u8], exclusions_file: &[u8]) -> Result<Version, Answer>
+pub fn version_of(
+    alloc: Global,
+    data_file: &[u8],
+    exclusions_file: &[u8],
+) -> Result<Version, Answer>
     ensures version { IfOk result (IsVersionOf data_file.now exclusions_file.now) }
     ensures refused { IfErr result (IsNoVersion data_file.now exclusions_file.now) }
 {
@@ -129,12 +77,25 @@ fn version_of(alloc: Global, data_file: &[u8], exclusions_file: &[u8]) -> Result
     }
 }
 
-/// The table of a version, shared, in a box.
-fn boxed(alloc: Global, version: Version) -> Result<Box<Content>, Memory>
-    ensures { IfOk result (λ b. version_in (Some b.value) ≡ Some version) }
+/// The first owner of the table of a version, without foldings.
+///
+/// # Errors
+///
+/// `Memory` where memory ran out.
+pub fn shared_over(alloc: Global, version: Version) -> Result<Shared, Memory>
+    ensures table { IfOk result (λ s. arc_value s.table ≡ version) }
+    ensures unfolded { IfOk result (λ s. s.folded ≡ None) }
 {
     let table = PageTable::new(alloc, version)?;
-    Content::of_table(alloc, Shared::new(alloc, table)?)
+    Shared::new(alloc, table)
+}
+
+/// The table of a version, shared, in a box.
+fn boxed(alloc: Global, version: Version) -> Result<Box<Content>, Memory>
+    ensures version { IfOk result (λ b. version_in (Some b.value) ≡ Some version) }
+    ensures unfolded { IfOk result (λ b. folded_in (Some b.value) ≡ None) }
+{
+    Content::of_table(alloc, shared_over(alloc, version)?)
 }
 
 /// One more owner of a table, in a box of its own.
@@ -143,7 +104,8 @@ fn boxed(alloc: Global, version: Version) -> Result<Box<Content>, Memory>
 ///
 /// `Memory` where memory ran out, or the table has too many owners.
 pub fn another_of(alloc: Global, shared: &Shared) -> Result<Box<Content>, Memory>
-    ensures { IfOk result (λ b. version_in (Some b.value) ≡ Some (arc_value shared.now.table)) }
+    ensures version { IfOk result (λ b. version_in (Some b.value) ≡ Some (arc_value shared.now.table)) }
+    ensures folded { IfOk result (λ b. folded_in (Some b.value) ≡ folded_shared (Some shared.now)) }
 {
     Content::of_table(alloc, shared.another(alloc)?)
 }
@@ -159,6 +121,7 @@ pub fn shared_of(
     exclusions_file: &[u8],
 ) -> Result<Box<Content>, Answer>
     ensures version { IfOk result (λ b. (v : VersionData) × (version_in (Some b.value) ≡ Some v) × IsVersionOf data_file.now exclusions_file.now v) }
+    ensures unfolded { IfOk result (λ b. folded_in (Some b.value) ≡ None) }
     ensures refused { IfErr result (IsNoVersion data_file.now exclusions_file.now) }
 {
     let version = match version_of(alloc, data_file, exclusions_file) {

@@ -37,7 +37,7 @@ and_swap false true z = refl
 and_swap false false z = refl
 
 -- ordering keeps what holds of each code point, and adds nothing
-order_all : (ccc : ℕ → ℕ) (p : ℕ → Bool) (cs : List ℕ) → list_all p (canonical_order ccc cs) ≡ list_all p cs
+pub order_all : (ccc : ℕ → ℕ) (p : ℕ → Bool) (cs : List ℕ) → list_all p (canonical_order ccc cs) ≡ list_all p cs
 order_all ccc p cs =
     canonical_order-keeps ccc (list_all p)
     (λ us a b vs pair.

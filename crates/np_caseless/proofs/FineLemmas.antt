@@ -114,7 +114,7 @@ module _ (v : FoldedVersion) (sound : IsSound v.version) where
 
   -- syllables, where no Hangul folds
   module _ (on : has_hangul v.version ≡ true) (quiet : (c : ℕ) → is_hangul c ≡ true → is_quiet v.foldings c ≡ true) where
-    parts_all : (p : ℕ → Bool) → ((d : ℕ) → IsJamo d → p d ≡ true) → (s : ℕ) (shape : PairShape s) → is_syllable s ≡ true → list_all p (D s) ≡ true
+    pub parts_all : (p : ℕ → Bool) → ((d : ℕ) → IsJamo d → p d ≡ true) → (s : ℕ) (shape : PairShape s) → is_syllable s ≡ true → list_all p (D s) ≡ true
     parts_all p each s shape is =
         elim shape.head [
           | inl jamo ↦
@@ -128,7 +128,7 @@ module _ (v : FoldedVersion) (sound : IsSound v.version) where
               ∙ and_from _ _ (each lv.leading lv.first) (and_from _ _ (each lv.vowel lv.second) (and_from _ _ (each shape.second shape.tail) refl))
         ]
 
-    jamo_final : (d : ℕ) → IsJamo d → is_final v.version true d ≡ true
+    pub jamo_final : (d : ℕ) → IsJamo d → is_final v.version true d ≡ true
     jamo_final d jamo = parts-cases v.version true (λ l. is_empty l ≡ true) refl d (ap is_empty (jamo_bare v.version d on jamo))
 
     pub syllable_fine : (s : ℕ) → is_syllable s ≡ true → IsFine v s
@@ -161,7 +161,7 @@ module _ (v : FoldedVersion) (sound : IsSound v.version) where
       both_ways (is_final v.version true c) counts (parts-cases v.version true (λ l. is_empty l ≡ true) refl c (ap is_empty none))
 
   -- a surrogate has no fault
-  surrogate_final : (c : ℕ) → ¬ (scalar c ≡ true) → is_final v.version true c ≡ true
+  pub surrogate_final : (c : ℕ) → ¬ (scalar c ≡ true) → is_final v.version true c ≡ true
   surrogate_final c none =
       elim (cases_Bool (is_final v.version true c)) [
         | inl final ↦ final
@@ -171,7 +171,7 @@ module _ (v : FoldedVersion) (sound : IsSound v.version) where
   pub surrogate_fine : (c : ℕ) → AreFoldings v.foldings → ¬ (scalar c ≡ true) → IsFine v c
   surrogate_fine c foldings none = plain_fine c (surrogate_quiet v.foldings c foldings.each none) (surrogate_final c none)
 
-  mapped_where : (c : ℕ) (t : Bool) → (has_hangul v.version && is_syllable c) ≡ t → is_final v.version true c ≡ false
+  pub mapped_where : (c : ℕ) (t : Bool) → (has_hangul v.version && is_syllable c) ≡ t → is_final v.version true c ≡ false
       → Below (IsRowAt v.version.entries) (length v.version.entries) c ⊎ IsOfArithmetic v c
   mapped_where c true on counts = inr on
   mapped_where c false off counts = inl (in_file c (λ none. mapped c counts (decomposition_mapping-off v.version c off ∙ none)))

@@ -1,3 +1,5 @@
+pub mod AsciiLemmas
+pub mod AssignedLemmas
 pub mod AuditLemmas
 pub mod BackwardLemmas
 pub mod BreakLemmas
@@ -7,6 +9,8 @@ pub mod ExampleLemmas
 pub mod FineLemmas
 pub mod FirstLemmas
 pub mod FoldLemmas
+pub mod ImageLemmas
+pub mod ImageTableLemmas
 pub mod KeyLemmas
 pub mod LeastLemmas
 pub mod LengthLemmas

@@ -1,6 +1,9 @@
+pub mod AsciiFoldings
 pub mod BreakSteps
 pub mod FirstFaults
 pub mod FoldingChanges
+pub mod ImageTables
+pub mod Images
 pub mod Keys
 pub mod Leasts
 pub mod Unfolded

@@ -1,34 +1,47 @@
 //! Tables of versions with their foldings.
-ghost use Rattle.std.specs.Prelude.{◌≡◌, ◌⊎◌, IfOk, IfErr, OnOk};
+ghost use Rattle.std.specs.Prelude.{◌≡◌, ◌⊎◌, IfOk, IfErr, IfSome, OnOk};
 ghost use Rattle.np_caseless.specs.Conditions.{IsSoundFolding};
 ghost use Rattle.np_caseless.specs.ConditionFaults.{IsFaultless, IsLeastFault};
 ghost use Rattle.np_caseless.specs.Folded.{folded_by};
+ghost use Rattle.np_caseless.specs.inside.AsciiFoldings.{FoldsAscii};
+ghost use Rattle.np_caseless.specs.inside.ImageTables.{AreAllImages};
 ghost use Rattle.np_caseless.specs.declared.faults.ConditionFault.TheVariants.{Memory as OutOfMemory};
 
+use crate::ascii::ascii_foldings;
 use crate::faults::ConditionFault;
 use crate::first_faults::first_fault;
+use crate::image_tables::Images;
 use np_foldings::{Foldings, Lowercase};
 use np_versions::NormTable;
 use std::alloc::Global;
 use std::marker::Model;
 
 /// A table of a version with its foldings, which meet the conditions together. Contracts see the version and the foldings.
-/// The table may be lent: then the foldings are owned and the table is not.
+/// The table may be lent: then the foldings are owned and the table is not. What may stand in place of a code point before its
+/// caseless key's last normalization is worked out once for all of them, and so is what ASCII folds to.
 #[derive(Drop)]
 pub struct FoldedTable<T: NormTable + Drop> {
     table: T,
     foldings: Foldings,
+    canonical: Images,
+    compatible: Images,
+    ascii: Option<Vec<u8>>,
 }
 
 impl<T: NormTable + Drop> Model for FoldedTable<T> {
+    ghost use Rattle.std.specs.Prelude.{IfSome};
     ghost use Rattle.np_caseless.specs.Conditions.{IsSoundFolding};
     ghost use Rattle.np_caseless.specs.Folded.{FoldedVersion, folded_by};
+    ghost use Rattle.np_caseless.specs.inside.AsciiFoldings.{FoldsAscii};
+    ghost use Rattle.np_caseless.specs.inside.ImageTables.{HaveImages};
 
     ghost Value = { FoldedVersion };
 
     ghost view = { λ a. folded_by (T.model a.table) a.foldings };
 
-    ghost invariant = { λ a. IsSoundFolding (folded_by (T.model a.table) a.foldings) };
+    ghost invariant = { λ a. IsSoundFolding (folded_by (T.model a.table) a.foldings)
+        × HaveImages (folded_by (T.model a.table) a.foldings) a.canonical a.compatible
+        × IfSome a.ascii (λ bytes. FoldsAscii (folded_by (T.model a.table) a.foldings) bytes.items) };
 }
 
 /// Tells the fault at the least code point, where there is one.
@@ -68,7 +81,16 @@ impl<T: NormTable + Drop> FoldedTable<T> {
         judge(alloc, &table, &foldings, lowercases)?;
         table.meets_conditions();
         foldings.are_in_order();
-        Ok(FoldedTable { table, foldings })
+        let canonical = Images::build(alloc, &table, &foldings, false)?;
+        let compatible = Images::build(alloc, &table, &foldings, true)?;
+        let ascii = ascii_foldings(alloc, &table, &foldings)?;
+        Ok(FoldedTable {
+            table,
+            foldings,
+            canonical,
+            compatible,
+            ascii,
+        })
     }
 
     /// Does nothing at run time: the version meets the conditions with its foldings, as each that was built does.
@@ -76,6 +98,28 @@ impl<T: NormTable + Drop> FoldedTable<T> {
         ensures { IsSoundFolding self.now }
     {
         let _ = &self.foldings;
+    }
+
+    /// The images by one kind of normalization.
+    pub(crate) fn images(&self, compat: bool) -> &Images
+        ensures { AreAllImages self.now compat result.now }
+    {
+        if compat {
+            &self.compatible
+        } else {
+            &self.canonical
+        }
+    }
+
+    /// What each character of ASCII folds to, at its place, where that makes the caseless keys of texts of ASCII under each form:
+    /// each byte by itself.
+    pub fn ascii(&self) -> Option<&[u8]>
+        ensures { IfSome result (λ bytes. FoldsAscii self.now bytes.now) }
+    {
+        match &self.ascii {
+            Some(bytes) => Some(bytes.as_slice()),
+            None => None,
+        }
     }
 
     /// The table.

@@ -10,6 +10,7 @@ ghost use Rattle.np_versions.specs.Versions.{is_assigned};
 use crate::faults::ConditionFault;
 use crate::folded_again::folds_again;
 use crate::keys::caseless_form;
+use crate::own_images::is_own;
 use crate::quiet::{folding_of, is_quiet};
 use np_code_points::hangul::is_syllable;
 use np_code_points::text::{chars_of, string_of};
@@ -59,6 +60,17 @@ fn folding_fault<T: NormTable>(
     Ok(None)
 }
 
+/// Whether the caseless NFKD form of a code point is known not to be too long, since it is its NFKD form.
+fn is_known_short<T: NormTable>(table: &T, foldings: &Foldings, code: char) -> bool
+    ensures { IsTrue result → ¬ (IsFoldedTooLong (folded_by (T.model table.now) foldings.now) code) }
+{
+    table.meets_conditions();
+    if table.hangul() && is_syllable(u32::from(code)) {
+        return false;
+    }
+    is_own(table, foldings, true, code)
+}
+
 /// Whether the caseless NFKD form of a code point is too long.
 fn is_too_long<T: NormTable>(
     alloc: Global,
@@ -69,6 +81,9 @@ fn is_too_long<T: NormTable>(
     ensures { IfOk result (λ long. IsTrue long ↔ IsFoldedTooLong (folded_by (T.model table.now) foldings.now) code) }
 {
     table.meets_conditions();
+    if is_known_short(table, foldings, code) {
+        return Ok(false);
+    }
     let text = string_of(alloc, slice::from_ref(&code))?;
     let form = caseless_form(alloc, table, foldings, Form::Nfkd, text.as_str())?;
     let codes = chars_of(alloc, form.as_str())?;

@@ -2,22 +2,29 @@
 //! the same under each later version.
 #![tactic(auto)]
 
+mod ascii;
 mod audits;
 mod breaks;
 mod faults;
 mod first_faults;
 mod folded_again;
+mod folded_keys;
 mod folded_tables;
 mod folding;
 mod folding_changes;
 mod folding_faults;
+mod image_tables;
+mod image_texts;
+mod images;
 mod keys;
 pub mod laws;
 mod leasts;
 mod not_folded;
+mod own_images;
 mod quiet;
 mod quiet_hangul;
 
+pub use ascii::{fold_into, push_folded};
 pub use audits::{audit, extends};
 pub use breaks::{FoldedBreak, FoldedBreakKind};
 pub use faults::ConditionFault;

@@ -1,3 +1,4 @@
+pub mod AskedWords
 pub mod CaselessAudits
 pub mod CaselessComparisons
 pub mod CaselessKeys

@@ -14,12 +14,14 @@ mod program;
 mod texts;
 mod usage;
 mod versions;
+mod words;
 
 pub use compare::CompareJob;
 pub use faults::{CaselessFault, FoldedFault};
 pub use files::{OpenFiles, open_folded};
 pub use key::KeyJob;
-pub use program::{NpssCaseless, run_words};
+pub use program::{NpssCaseless, run_words, tell_refused};
 pub use texts::{FoldedMaker, run_over_folded};
-pub use usage::caseless_usage_text;
+pub use usage::{caseless_usage_text, caseless_version_text};
 pub use versions::read_folded;
+pub use words::{CaselessAsked, parse_words};

@@ -2,12 +2,13 @@
 ghost use Rattle.std.specs.Prelude.{◌≡◌, ◌++◌, map, string_bytes, Some, None, IfOk, IfErr};
 ghost use Rattle.np_caseless_job.specs.CaselessAudits.{FoldedAuditEnds};
 ghost use Rattle.np_caseless_job.specs.CaselessKeysUnder.{CaselessUnderEnds, FoldedUnderReaders};
-ghost use Rattle.np_caseless_job.specs.CaselessProgram.{EndsOverFiles, ProgramEnds};
+ghost use Rattle.np_caseless_job.specs.AskedWords.{asked_of, files_named, words_asked};
+ghost use Rattle.np_caseless_job.specs.CaselessProgram.{EndsOverFiles, JobEndsOverFiles, ProgramEnds};
 ghost use Rattle.np_caseless_job.specs.Pairs.{ArePair, PairReaders};
 ghost use Rattle.np_caseless_job.specs.Usage.{caseless_usage};
 ghost use Rattle.np_jobs.specs.Opening.{IsUnopened};
 ghost use Rattle.np_jobs.specs.Streams.{stream_of};
-ghost use Rattle.np_words.specs.CaselessWords.{caseless_asked_by, caseless_asked_of, folded_names_of};
+ghost use Rattle.np_words.specs.CaselessWords.{caseless_asked_of, folded_names_of};
 
 use crate::audit::audit_job;
 use crate::compare::CompareJob;
@@ -15,10 +16,13 @@ use crate::key::KeyJob;
 use crate::key_under::key_under_job;
 use crate::pairs::open_pair;
 use crate::texts::run_over_folded;
-use crate::usage::caseless_usage_text;
+use crate::usage::{caseless_usage_text, caseless_version_text};
+use crate::words::{CaselessAsked, parse_words};
 use np_code_points::Form;
-use np_jobs::{Opener, Program, Resources, Streams, run_program, show_usage};
-use np_words::{CaselessJob, FoldedFiles, WordsFault, parse_caseless};
+use np_code_points::watched::Watched;
+use np_habits::{KnownWords, refusal_line, refused_in};
+use np_jobs::{Opener, Program, Resources, Streams, run_program, show_usage, tell};
+use np_words::{CaselessJob, FoldedFiles, WordsFault};
 use std::alloc::Global;
 use std::io::{Read, Write};
 
@@ -70,17 +74,53 @@ fn run_key_under<P: Opener, I: Read, O: Write, E: Write>(
     Ok(key_under_job(with.alloc, form, &mut pair, streams))
 }
 
+/// Does a job.
+///
+/// # Errors
+///
+/// The status that was told, where a file can't be opened.
+fn run_job<P: Opener, I: Read, O: Write, E: Write>(
+    with: &Resources<'_, P>,
+    job: &CaselessJob,
+    streams: &mut Streams<I, O, E>,
+) -> Result<u8, u8>
+    ensures done { IfOk result (JobEndsOverFiles (P.gives with.now.opener.now) job.now
+        (stream_of I.remaining streams.old.input streams.new.input) (stream_of O.contents streams.old.output streams.new.output)
+        (stream_of E.contents streams.old.error streams.new.error)) }
+    ensures unopened { IfErr result (IsUnopened (P.gives with.now.opener.now) (P.lacks with.now.opener.now) (caseless_asked_of job.now).files
+        (stream_of E.contents streams.old.error streams.new.error)) }
+    ensures unread { IfErr result (λ status. streams.new.input ≡ streams.old.input) }
+    ensures unwritten { IfErr result (λ status. streams.new.output ≡ streams.old.output) }
+{
+    match job {
+        CaselessJob::Help => Ok(show_usage(
+            with.alloc,
+            &mut streams.output,
+            &mut streams.error,
+            caseless_usage_text(),
+        )),
+        CaselessJob::Key { form, files } => {
+            run_over_folded(with, &KeyJob { form: *form }, files, streams)
+        }
+        CaselessJob::KeyUnder { form, old, new } => run_key_under(with, *form, old, new, streams),
+        CaselessJob::Compare { form, files } => {
+            run_over_folded(with, &CompareJob { form: *form }, files, streams)
+        }
+        CaselessJob::Audit { old, new } => run_audit(with, old, new, streams),
+    }
+}
+
 /// The program `npss_caseless`.
 pub struct NpssCaseless;
 
 impl Program for NpssCaseless {
-    type Job = CaselessJob;
+    type Job = CaselessAsked;
 
-    ghost asks = { λ words job. caseless_asked_by words ≡ Some (caseless_asked_of job) };
+    ghost asks = { λ words job. words_asked words ≡ Some (asked_of job) };
 
-    ghost asks_nothing = { λ words. caseless_asked_by words ≡ None };
+    ghost asks_nothing = { λ words. words_asked words ≡ None };
 
-    ghost files_of = { λ job. (caseless_asked_of job).files };
+    ghost files_of = { files_named };
 
     ghost usage = { caseless_usage };
 
@@ -92,33 +132,56 @@ impl Program for NpssCaseless {
         caseless_usage_text()
     }
 
-    fn parse(alloc: Global, words: &[String]) -> Result<CaselessJob, WordsFault> {
-        parse_caseless(alloc, words)
+    fn parse(alloc: Global, words: &[String]) -> Result<CaselessAsked, WordsFault> {
+        parse_words(alloc, words)
     }
 
     fn run<P: Opener, I: Read, O: Write, E: Write>(
         with: &Resources<'_, P>,
-        job: &CaselessJob,
+        job: &CaselessAsked,
         streams: &mut Streams<I, O, E>,
     ) -> Result<u8, u8> {
         match job {
-            CaselessJob::Help => Ok(show_usage(
+            CaselessAsked::Version => Ok(show_usage(
                 with.alloc,
                 &mut streams.output,
                 &mut streams.error,
-                caseless_usage_text(),
+                caseless_version_text(),
             )),
-            CaselessJob::Key { form, files } => {
-                run_over_folded(with, &KeyJob { form: *form }, files, streams)
-            }
-            CaselessJob::KeyUnder { form, old, new } => {
-                run_key_under(with, *form, old, new, streams)
-            }
-            CaselessJob::Compare { form, files } => {
-                run_over_folded(with, &CompareJob { form: *form }, files, streams)
-            }
-            CaselessJob::Audit { old, new } => run_audit(with, old, new, streams),
+            CaselessAsked::Job { job } => run_job(with, job, streams),
         }
+    }
+}
+
+/// The most files that the words may name.
+fn most_files(words: &[String]) -> usize {
+    let is_audit = words.first().is_some_and(|word| word.as_str() == "audit");
+    if is_audit || words.iter().any(|word| word.as_str() == "--check-under") {
+        6
+    } else {
+        3
+    }
+}
+
+/// Tells on `error` which of the words is refused, where they ask for nothing that there is.
+pub fn tell_refused<E: Write>(
+    alloc: Global,
+    error: &mut Watched<E>,
+    words: &[String],
+    found: &Result<CaselessAsked, WordsFault>,
+) {
+    let Err(WordsFault::Usage) = found else {
+        return;
+    };
+    let known = KnownWords {
+        commands: &["key", "compare", "audit"],
+        flags: &["check-under"],
+        most_files: most_files(words),
+    };
+    if let Ok(refused) = refused_in(alloc, &known, words)
+        && let Ok(line) = refusal_line(alloc, "npss_caseless", refused)
+    {
+        tell(error, line.as_str());
     }
 }
 

@@ -23,6 +23,10 @@ mod key_rows;
 #[cfg(test)]
 mod keys;
 #[cfg(test)]
+mod lines;
+#[cfg(test)]
 mod lowercases;
 #[cfg(test)]
 mod match_rows;
+#[cfg(test)]
+mod refused;

@@ -5,6 +5,7 @@ use np_code_points::input::InputFault;
 use np_code_points::output::WriteFailed;
 use np_examples_shared::told::want_told;
 use np_jobs::{JobFault, ReplayFault, TextFault, VersionFault};
+use np_lines_job::CaselessLinesFault;
 use np_ucd::UcdFault;
 use np_versions::TableFault;
 use np_words::WordsFault;
@@ -13,6 +14,10 @@ use std::test::Fail;
 #[test]
 fn devices_and_memory_are_told(rt: HostRuntime) -> Result<(), Fail> {
     want_told(rt.alloc(), &[(WriteFailed, "write failed")])?;
+    want_told(
+        rt.alloc(),
+        &[(CaselessLinesFault::WriteFailed, "output: write failed")],
+    )?;
     want_told(rt.alloc(), &[(Memory, "out of memory")])
 }
 

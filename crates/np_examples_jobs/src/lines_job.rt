@@ -143,6 +143,23 @@ fn a_failed_device_is_told_behind_the_answers(rt: HostRuntime) -> Result<(), Fai
 fn shown(alloc: Global, read: &Result<LinesJob, WordsFault>) -> Result<String, Fail> {
     match read {
         Ok(LinesJob::Help) => Ok(String::from_str(alloc, "help")?),
+        Ok(LinesJob::Version) => Ok(String::from_str(alloc, "version")?),
+        Ok(
+            LinesJob::AnswerCaselessly {
+                asked,
+                shows_progress,
+                files,
+            },
+        ) => Ok(format!(in alloc;
+            "caseless {:?} {:?} {} {} {} {} {}",
+            asked.wanted.form,
+            asked.wanted.end,
+            asked.is_strict,
+            shows_progress,
+            files.version.data_file,
+            files.version.exclusions_file,
+            files.folding_file
+        )?),
         Ok(
             LinesJob::Answer {
                 asked,
@@ -189,11 +206,40 @@ const WORDS: &[(&str, &str)] = &[
     ("--form nfc D", "Usage"),
     ("--form nfc D E F", "Usage"),
     ("D E", "Usage"),
-    ("--form NFC D E", "Usage"),
+    ("--form NFC D E", "Nfc Lf false false D E"),
+    ("D --form=nFkD E", "Nfkd Lf false false D E"),
+    (
+        "--form nfc -- NFC --form=NFC",
+        "Nfc Lf false false NFC --form=NFC",
+    ),
+    ("--form nfc NFC --null E", "Nfc Nul false false NFC E"),
+    (
+        "--form nfkc --caseless D E F",
+        "caseless Nfkc Lf false false D E F",
+    ),
+    (
+        "D E --strict F --progress --caseless --null --form NFD",
+        "caseless Nfd Nul true true D E F",
+    ),
+    ("--form nfkc --caseless D E", "Usage"),
+    ("--form nfkc --caseless D E F G", "Usage"),
+    ("--form nfkc --caseless --caseless D E F", "Usage"),
+    ("--form nfkc --caseless=true D E F", "Usage"),
+    ("--form nfx D E", "Usage"),
+    ("--FORM nfc D E", "Usage"),
     ("--null --null --form nfc D E", "Usage"),
     ("--null=true --form nfc D E", "Usage"),
     ("--form nfc --form nfc D E", "Usage"),
-    ("--help", "Usage"),
+    ("--help", "help"),
+    ("--form nfc D --help E", "help"),
+    ("--help --version", "help"),
+    ("--version --help", "version"),
+    ("--nul --version", "version"),
+    (
+        "--form nfc -- --help --version",
+        "Nfc Lf false false --help --version",
+    ),
+    ("--form nfc -- --help", "Usage"),
 ];
 
 #[test]

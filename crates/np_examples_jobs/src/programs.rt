@@ -9,7 +9,7 @@ use np_examples_shared::fixtures::{V1_DATA, V1_EXCLUSIONS, V2_DATA, V2_EXCLUSION
 use np_examples_shared::scripts::{RESTART_REPORT, RESTART_SCHEDULE};
 use np_examples_shared::want;
 use np_jobs::{Resources, Streams};
-use np_lines_job::{Progress, lines_usage_text, run_words as run_line_words};
+use np_lines_job::{Progress, lines_usage_text, lines_version_text, run_words as run_line_words};
 use np_program::usage_text;
 use std::alloc::Global;
 use std::io::Read;
@@ -155,6 +155,28 @@ fn lines_are_answered_over_the_files_that_the_words_name(rt: HostRuntime) -> Res
         "\u{FB01}\n",
         &(0, "=fi\n", ""),
     )?;
+    wants_end(alloc, lines, "--help", "", &(0, lines_usage_text(), ""))?;
+    wants_end(
+        alloc,
+        lines,
+        "--form --version",
+        "",
+        &(0, lines_version_text(), ""),
+    )?;
+    wants_end(
+        alloc,
+        lines,
+        "--form nfkc --caseless data exclusions others",
+        "A\n",
+        &(5, "", "cannot open others\n"),
+    )?;
+    wants_end(
+        alloc,
+        lines,
+        "--form nfkc --caseless data exclusions data",
+        "A\n",
+        &(4, "", "version 0 folding: line 1: FieldCount\n"),
+    )?;
     wants_end(alloc, lines, "--form", "", &(2, "", lines_usage_text()))
 }
 
@@ -167,6 +189,6 @@ fn gives_two<I: Read>(input: &mut I) -> Result<(), Fail> {
 
 #[test]
 fn progress_that_is_not_shown_changes_nothing(rt: HostRuntime) -> Result<(), Fail> {
-    let mut input = Progress::new(&rt, Trickle::new(b"abc", 2), None);
+    let mut input = Progress::new(&rt, Trickle::new(b"abc", 2), None, Some(3));
     gives_two(&mut input)
 }

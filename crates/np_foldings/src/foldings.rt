@@ -73,15 +73,19 @@ impl Foldings {
         self.foldings.get(at)
     }
 
-    /// What a code point folds to, where that is not the code point alone. In time linear in the foldings.
+    /// What a code point folds to, where that is not the code point alone. In time logarithmic in the foldings.
     pub fn find(&self, code: char) -> Option<&[char]>
         ensures { MatchOption result (folding_at self.now code ≡ code ∷ []) (λ mapping. folding_at self.now code ≡ mapping.now) }
     {
-        for folding in &self.foldings {
-            if folding.code == code {
-                return Some(folding.mapping.as_slice());
-            }
+        let begun = self.foldings.partition_point(|f| f.code <= code);
+        if begun == 0 {
+            return None;
         }
-        None
+        let last = &self.foldings[begun - 1];
+        if last.code == code {
+            Some(last.mapping.as_slice())
+        } else {
+            None
+        }
     }
 }

@@ -1,6 +1,5 @@
 //! The four normalization forms (The Unicode Standard, D118 to D121).
 ghost use Rattle.std.specs.Prelude.{◌≡◌, ◌↔◌, IsTrue, chars, encode_utf8_all, string_bytes, IfOk, OnErr, [], false, if◌then◌else◌};
-ghost use Rattle.std.specs.Cow.{cow_str_bytes};
 ghost use Rattle.np_forms.specs.Forms.{IsNormalForm};
 ghost use Rattle.np_forms.specs.inside.Copies.{IsCopied};
 ghost use Rattle.np_forms.specs.inside.NormalForms.{normal_form};
@@ -13,7 +12,6 @@ use crate::pieces::has_form;
 use np_code_points::{Form, Memory};
 use np_versions::NormTable;
 use std::alloc::Global;
-use std::borrow::CowStr;
 
 /// The form of a text that was cut behind a front which passes the quick check.
 fn form_behind<T: NormTable>(
@@ -48,31 +46,6 @@ pub fn form<T: NormTable>(
     let normalizer = Normalizer { alloc, table, form };
     let made = form_behind(&normalizer, text, cut)?;
     Ok(made)
-}
-
-/// The normal form of a text that is lent. Where the text is known to be its own form, it is answered itself, and no
-/// memory is taken.
-///
-/// # Errors
-///
-/// `Memory` where memory ran out.
-pub fn lend_form<'a, T: NormTable>(
-    alloc: Global,
-    table: &T,
-    wanted: Form,
-    text: &'a str,
-) -> Result<CowStr<'a>, Memory>
-    ensures { IfOk result (λ t. IsNormalForm (T.model table.now) wanted (chars text.now) (chars (cow_str_bytes t))) }
-{
-    table.meets_conditions();
-    let cut = split_quick_span(table, wanted, false, text);
-    if !cut.rest.is_empty() {
-        let form = wanted;
-        let normalizer = Normalizer { alloc, table, form };
-        let made = form_behind(&normalizer, text, cut)?;
-        return Ok(CowStr::Owned(made));
-    }
-    Ok(CowStr::Borrowed(text))
 }
 
 /// Makes the normal form of a text in a buffer, and answers whether it stands there. Where the text is known to be its own

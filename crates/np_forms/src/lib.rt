@@ -50,7 +50,7 @@ pub use assigned::{first_unassigned, first_unassigned_char, first_unassigned_in_
 pub use decompositions::full_decomposition;
 pub use equivalence::equivalent;
 pub use form_buffers::FormBuffer;
-pub use forms::{form, is_form, lend_form, make_form};
+pub use forms::{form, is_form, make_form};
 pub use quick_check::quick_check_span;
 pub use runs::{RUN_LIMIT, RunFault, run};
 pub use stabilized::{NpssFault, into_npss, lend_npss, make_npss, npss};

@@ -4,7 +4,8 @@ use Rattle.np_code_points.specs.Lines.{HasNo}
 use Rattle.np_code_points.specs.inside.LineCuts.{after_byte}
 use Rattle.np_code_points.proofs.LineGrammar.{after_none, before_free, joined_none}
 use Rattle.np_versions.specs.Versions.{VersionData}
-use Rattle.np_lines.specs.Answers.{Wanted, IsAnswer, IsAnswerWithin, IsKey, IsToldKey, most_bytes}
+use Rattle.np_lines.specs.Answers.{IsAnswerBy, IsAnswerWithinBy, IsKeyBy, IsToldKey, most_bytes}
+use Rattle.np_lines.specs.Lines.{LineEnd}
 use Rattle.np_lines.specs.inside.Steps.{IsTold}
 
 -- what stands behind a byte
@@ -16,16 +17,16 @@ pub behind_none : (byte : ℕ) (bytes : List ℕ) (o : Option (Bor (List ℕ))) 
 behind_none byte bytes None e h = subst (HasNo byte) (sym (joined_none byte bytes (sym e))) (before_free byte bytes)
 behind_none byte bytes (Some r) e h = absurd (cc)
 
-module _ (v : VersionData) (wanted : Wanted) where
+module _ (IsKeyOf : List ℕ → List ℕ → Type 0) (v : VersionData) (end : LineEnd) where
   -- of a text
-  pub told_of_key : (line key old new : List ℕ) (refused : Bool) → IsKey v wanted.form line key → IsTold (IsToldKey wanted.end key) old new refused → IsTold (IsAnswerWithin v wanted line) old new refused
+  pub told_of_key : (line key old new : List ℕ) (refused : Bool) → IsKeyBy IsKeyOf v line key → IsTold (IsToldKey end key) old new refused → IsTold (IsAnswerWithinBy IsKeyOf v end line) old new refused
   told_of_key line key old new refused k t = record { answer = t.answer; is = inr (inr (key, k, t.is)); out_is = t.out_is; told = t.told }
 
   -- within the limit
-  pub told_of_text : (line text old new : List ℕ) (refused : Bool) → length line ≤ most_bytes → text ≡ line → IsTold (IsAnswerWithin v wanted text) old new refused → IsTold (IsAnswer v wanted line) old new refused
+  pub told_of_text : (line text old new : List ℕ) (refused : Bool) → length line ≤ most_bytes → text ≡ line → IsTold (IsAnswerWithinBy IsKeyOf v end text) old new refused → IsTold (IsAnswerBy IsKeyOf v end line) old new refused
   told_of_text line text old new refused short same t = record {
     answer = t.answer;
-    is = inr (short, subst (λ l. IsAnswerWithin v wanted l t.answer) same t.is);
+    is = inr (short, subst (λ l. IsAnswerWithinBy IsKeyOf v end l t.answer) same t.is);
     out_is = t.out_is;
     told = t.told;
   }

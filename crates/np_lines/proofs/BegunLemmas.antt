@@ -4,8 +4,6 @@ use Rattle.std.proofs.lemmas.Bool.{both_ways}
 use Rattle.np_code_points.specs.Lines.{HasNo}
 use Rattle.np_code_points.specs.inside.LineCuts.{before_byte, after_byte}
 use Rattle.np_code_points.proofs.LineGrammar.{before_free, joined_none, joined_some}
-use Rattle.np_versions.specs.Versions.{VersionData}
-use Rattle.np_lines.specs.Answers.{Wanted, IsAnswer}
 use Rattle.np_lines.specs.Lines.{LineEnd, byte_of}
 use Rattle.np_lines.specs.declared.pending.Pending.{Pending}
 use Rattle.np_lines.specs.inside.Steps.{Goes, HasBegun, HasTaken, IsAnswerTo, IsEnded, IsTold}
@@ -29,22 +27,22 @@ cut_last end rest line byte o is before after none =
 
 -- ---- its answer
 
-module _ (v : VersionData) (wanted : Wanted) where
+module _ (Is : List ℕ → List ℕ → Type 0) (end : LineEnd) where
   -- all of it is here
-  pub told-whole : (p : Pending) (bytes old new : List ℕ) (refused : Bool) → p.line.items ≡ [] → p.is_long ≡ false → IsTold (IsAnswer v wanted bytes) old new refused → IsTold (IsAnswerTo v wanted p bytes) old new refused
+  pub told-whole : (p : Pending) (bytes old new : List ℕ) (refused : Bool) → p.line.items ≡ [] → p.is_long ≡ false → IsTold (Is bytes) old new refused → IsTold (IsAnswerTo Is p bytes) old new refused
   told-whole p bytes old new refused line short t = record {
     answer = t.answer;
-    is = λ rest begun. subst (λ l. IsAnswer v wanted (l ++ bytes) t.answer) (sym (nothing_begun p rest line short begun)) t.is;
+    is = λ rest begun. subst (λ l. Is (l ++ bytes) t.answer) (sym (nothing_begun p rest line short begun)) t.is;
     out_is = t.out_is;
     told = t.told;
   }
 
-  kept_line : (q : Pending) (line answer : List ℕ) → q.is_long ≡ false → HasBegun q line → IsAnswer v wanted q.line.items answer → IsAnswer v wanted line answer
-  kept_line q line answer short (inl (_, is, fits)) a = subst (λ l. IsAnswer v wanted l answer) is a
+  kept_line : (q : Pending) (line answer : List ℕ) → q.is_long ≡ false → HasBegun q line → Is q.line.items answer → Is line answer
+  kept_line q line answer short (inl (_, is, fits)) a = subst (λ l. Is l answer) is a
   kept_line q line answer short (inr (is_long, none, many)) a = absurd (both_ways q.is_long short is_long)
 
   -- it was kept
-  pub told-kept : (p q : Pending) (bytes old new : List ℕ) (refused : Bool) → ((rest : List ℕ) → HasBegun p rest → HasBegun q (rest ++ bytes)) → q.is_long ≡ false → IsTold (IsAnswer v wanted q.line.items) old new refused → IsTold (IsAnswerTo v wanted p bytes) old new refused
+  pub told-kept : (p q : Pending) (bytes old new : List ℕ) (refused : Bool) → ((rest : List ℕ) → HasBegun p rest → HasBegun q (rest ++ bytes)) → q.is_long ≡ false → IsTold (Is q.line.items) old new refused → IsTold (IsAnswerTo Is p bytes) old new refused
   told-kept p q bytes old new refused more short t = record {
     answer = t.answer;
     is = λ rest begun. kept_line q (rest ++ bytes) t.answer short (more rest begun) t.is;
@@ -54,23 +52,31 @@ module _ (v : VersionData) (wanted : Wanted) where
 
   -- ---- the lines of a piece
 
-  pub taken-line : (p q r : Pending) (piece rest line behind : List ℕ) → HasTaken v wanted p q piece rest → rest ≡ line ++ byte_of wanted.end ∷ behind → HasNo (byte_of wanted.end) line → IsEnded v wanted q r line → HasTaken v wanted p r piece behind
+  pub taken-line : (p q r : Pending) (piece rest line behind : List ℕ) → HasTaken Is end p q piece rest → rest ≡ line ++ byte_of end ∷ behind → HasNo (byte_of end) line → IsEnded Is end q r line → HasTaken Is end p r piece behind
   taken-line p q r piece rest line behind t is free e = record {
-    front = t.front ++ (line ++ byte_of wanted.end ∷ []);
+    front = t.front ++ (line ++ byte_of end ∷ []);
     split =
         t.split
         ∙ ap (λ l. t.front ++ l) is
-        ∙ ap (λ l. t.front ++ l) (sym (append_assoc line (byte_of wanted.end ∷ []) behind))
-        ∙ sym (append_assoc t.front (line ++ byte_of wanted.end ∷ []) behind);
-    goes = goes-joined v wanted p q r t.front (line ++ byte_of wanted.end ∷ []) t.goes (goes-end v wanted q r line free e);
+        ∙ ap (λ l. t.front ++ l) (sym (append_assoc line (byte_of end ∷ []) behind))
+        ∙ sym (append_assoc t.front (line ++ byte_of end ∷ []) behind);
+    goes = goes-joined Is end p q r t.front (line ++ byte_of end ∷ []) t.goes (goes-end Is end q r line free e);
   }
 
-  pub taken-last : (p q r : Pending) (piece rest line : List ℕ) → HasTaken v wanted p q piece rest → rest ≡ line → HasNo (byte_of wanted.end) line → r.out.items ≡ q.out.items → r.any_refused ≡ q.any_refused
-      → ((rest : List ℕ) → HasBegun q rest → HasBegun r (rest ++ line)) → Goes v wanted p r piece
+  pub taken-last : (p q r : Pending) (piece rest line : List ℕ) → HasTaken Is end p q piece rest → rest ≡ line → HasNo (byte_of end) line → r.out.items ≡ q.out.items → r.any_refused ≡ q.any_refused
+      → ((rest : List ℕ) → HasBegun q rest → HasBegun r (rest ++ line)) → Goes Is end p r piece
   taken-last p q r piece rest line t is free out told begun =
-      subst (Goes v wanted p r) (sym (t.split ∙ ap (λ l. t.front ++ l) is)) (goes-joined v wanted p q r t.front line t.goes (goes-on v wanted q r line free out told begun))
+      subst (Goes Is end p r) (sym (t.split ∙ ap (λ l. t.front ++ l) is)) (goes-joined Is end p q r t.front line t.goes (goes-on Is end q r line free out told begun))
 
   -- bytes without an end
-  pub taken-all : (p q : Pending) (bytes line : List ℕ) → bytes ≡ line → HasNo (byte_of wanted.end) line → q.out.items ≡ p.out.items → q.any_refused ≡ p.any_refused
-      → ((rest : List ℕ) → HasBegun p rest → HasBegun q (rest ++ line)) → HasTaken v wanted p q bytes []
-  taken-all p q bytes line is free out told begun = record { front = line; split = is ∙ sym (append-nil line); goes = goes-on v wanted p q line free out told begun }
+  pub taken-all : (p q : Pending) (bytes line : List ℕ) → bytes ≡ line → HasNo (byte_of end) line → q.out.items ≡ p.out.items → q.any_refused ≡ p.any_refused
+      → ((rest : List ℕ) → HasBegun p rest → HasBegun q (rest ++ line)) → HasTaken Is end p q bytes []
+  taken-all p q bytes line is free out told begun = record { front = line; split = is ∙ sym (append-nil line); goes = goes-on Is end p q line free out told begun }
+
+  -- more of a text was taken
+  pub taken-more : (p q r : Pending) (text rest left : List ℕ) → HasTaken Is end p q text rest → HasTaken Is end q r rest left → HasTaken Is end p r text left
+  taken-more p q r text rest left t u = record {
+    front = t.front ++ u.front;
+    split = t.split ∙ ap (λ l. t.front ++ l) u.split ∙ sym (append_assoc t.front u.front left);
+    goes = goes-joined Is end p q r t.front u.front t.goes u.goes;
+  }

@@ -99,7 +99,7 @@ pub record CutBehind (end : LineEnd) (bytes : List ℕ) (whole : List (List ℕ)
   pub rest : List ℕ
   pub cut : IsCut end bytes (whole ++ more) rest
 
-cut_joined : (end : LineEnd) (bytes behind : List ℕ) (whole more : List (List ℕ)) (rest left : List ℕ) → IsCut end bytes whole rest → IsCut end (rest ++ behind) more left → IsCut end (bytes ++ behind) (whole ++ more) left
+pub cut_joined : (end : LineEnd) (bytes behind : List ℕ) (whole more : List (List ℕ)) (rest left : List ℕ) → IsCut end bytes whole rest → IsCut end (rest ++ behind) more left → IsCut end (bytes ++ behind) (whole ++ more) left
 cut_joined end bytes behind whole more rest left c d = record {
   joined =
       ap (λ l. l ++ behind) c.joined

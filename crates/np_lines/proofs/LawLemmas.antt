@@ -6,22 +6,22 @@ use Rattle.std.proofs.lemmas.List.Elements.{All-nil, All-cons, All-head, All-tai
 use Rattle.std.proofs.lemmas.Str.{encodes-append, encodes-chars}
 use Rattle.std.specs.Fmt.{decimal}
 use Rattle.std.specs.Int.Digits.{digits_of}
-use Rattle.std.specs.List.{All, list_all}
+use Rattle.std.specs.List.{All, AllZip, list_all}
 use Rattle.std.specs.Str.Lossy.{utf8_valid_len}
 use Rattle.np_code_points.specs.Codes.{code_digits, hex_digit, unassigned}
 use Rattle.np_code_points.specs.Lines.{HasNo}
 use Rattle.np_code_points.specs.One.{HasOne}
 use Rattle.np_code_points.proofs.LineGrammar.{not_byte}
 use Rattle.np_forms.specs.Assigned.{IsAssigned, IsFirstUnassigned}
+use Rattle.np_forms.specs.Forms.{IsNormalForm}
 use Rattle.np_forms.specs.inside.NormalForms.{normal_form}
 use Rattle.np_forms.proofs.FormLemmas.{IsNormalForm-normal_form, normal_form_is}
 use Rattle.np_forms.proofs.RunTextLemmas.{longest_prefix, one_prefix}
 use Rattle.np_forms.proofs.TextLemmas.{lacks-unassigned}
-use Rattle.np_versions.specs.Conditions.{IsSound}
 use Rattle.np_versions.specs.Versions.{VersionData, is_assigned}
-use Rattle.np_lines.specs.Answers.{Wanted, AreAnswers, IsAnswer, IsAnswerWithin, IsKey, IsToldKey, IsUnassigned, most_bytes, not_utf8, told_key, told_refusal}
+use Rattle.np_lines.specs.Answers.{IsAnswerBy, IsAnswerWithinBy, IsKeyBy, IsToldKey, IsUnassigned, most_bytes, not_utf8, told_key, told_refusal}
 use Rattle.np_lines.specs.Laws.{AnswersAreLines, OneAnswer}
-use Rattle.np_lines.specs.Lines.{LineEnd, Lf, Nul, byte_of, ended}
+use Rattle.np_lines.specs.Lines.{LineEnd, Lf, Nul, AreLines, byte_of, ended}
 
 -- ---- one answer
 
@@ -105,26 +105,26 @@ one_first v xs at code place other f h =
     (h.place ∙ ap (λ l. length (encode_utf8_all l)) same.0 ∙ sym f.place, same.1)
 
 -- one key
-module _ (v : VersionData) (sound : IsSound v) (wanted : Wanted) (line : List ℕ) where
+module _ (IsKeyOf : List ℕ → List ℕ → Type 0) (v : VersionData) (end : LineEnd) (line : List ℕ) (one : HasOne (IsKeyOf (chars line))) where
   key_of : List ℕ
-  key_of = encode_utf8_all (normal_form v wanted.form (chars line))
+  key_of = encode_utf8_all one.0
 
-  one_key : (key : List ℕ) → IsKey v wanted.form line key → key ≡ key_of
+  one_key : (key : List ℕ) → IsKeyBy IsKeyOf v line key → key ≡ key_of
   unfolding key_of
-  one_key key k = k.key_is ∙ ap encode_utf8_all (normal_form_is v sound wanted.form (chars line) k.list k.is)
+  one_key key k = k.key_is ∙ ap encode_utf8_all (one.2 k.list k.is)
 
-  is_key : IsUtf8 line → IsAssigned v (chars line) → IsKey v wanted.form line key_of
+  is_key : IsUtf8 line → IsAssigned v (chars line) → IsKeyBy IsKeyOf v line key_of
   unfolding key_of
   is_key valid all = record {
     valid = valid;
     assigned = all;
-    list = normal_form v wanted.form (chars line);
-    is = IsNormalForm-normal_form v sound wanted.form (chars line);
+    list = one.0;
+    is = one.1;
     key_is = refl;
   }
 
   -- the answer to each kind of line
-  to_text : ¬ IsUtf8 line → HasOne (IsAnswerWithin v wanted line)
+  to_text : ¬ IsUtf8 line → HasOne (IsAnswerWithinBy IsKeyOf v end line)
   to_text invalid =
       let at = utf8_valid_len line in
       let answer = told_refusal (not_utf8 at) in (
@@ -137,7 +137,7 @@ module _ (v : VersionData) (sound : IsSound v) (wanted : Wanted) (line : List �
         ],
       )
 
-  to_unassigned : IsUtf8 line → (at code : ℕ) → IsFirstUnassigned v (chars line) at code → HasOne (IsAnswerWithin v wanted line)
+  to_unassigned : IsUtf8 line → (at code : ℕ) → IsFirstUnassigned v (chars line) at code → HasOne (IsAnswerWithinBy IsKeyOf v end line)
   to_unassigned valid at code first =
       let answer = told_refusal (unassigned at code) in (
         answer,
@@ -151,37 +151,42 @@ module _ (v : VersionData) (sound : IsSound v) (wanted : Wanted) (line : List �
         ],
       )
 
-  to_key : IsUtf8 line → IsAssigned v (chars line) → HasOne (IsAnswerWithin v wanted line)
+  to_key : IsUtf8 line → IsAssigned v (chars line) → HasOne (IsAnswerWithinBy IsKeyOf v end line)
   to_key valid all =
-      let told = one_told_key wanted.end key_of in (
+      let told = one_told_key end key_of in (
         told.0,
         inr (inr (key_of, is_key valid all, told.1)),
         λ other h. elim h as (λ _. other ≡ told.0) [
           | inl (place, no_text, is) ↦ absurd (no_text.invalid valid)
           | inr (inl (place, code, lacks, is)) ↦ absurd (lacks-unassigned v (chars line) place code lacks.first all)
-          | inr (inr (key, is, answer)) ↦ told.2 other (subst (λ k. IsToldKey wanted.end k other) (one_key key is) answer)
+          | inr (inr (key, is, answer)) ↦ told.2 other (subst (λ k. IsToldKey end k other) (one_key key is) answer)
         ],
       )
 
-  one_within : HasOne (IsAnswerWithin v wanted line)
-  one_within = elim (utf8_or line) as (λ _. HasOne (IsAnswerWithin v wanted line)) [
-    | inl valid ↦ elim (unassigned_or v (chars line)) as (λ _. HasOne (IsAnswerWithin v wanted line)) [
+  one_within : HasOne (IsAnswerWithinBy IsKeyOf v end line)
+  one_within = elim (utf8_or line) as (λ _. HasOne (IsAnswerWithinBy IsKeyOf v end line)) [
+    | inl valid ↦ elim (unassigned_or v (chars line)) as (λ _. HasOne (IsAnswerWithinBy IsKeyOf v end line)) [
       | inl all ↦ to_key valid all
       | inr (at, code, first) ↦ to_unassigned valid at code first
     ]
     | inr invalid ↦ to_text invalid
   ]
 
-  one_in : (most_bytes < length line) ⊎ (length line ≤ most_bytes) → HasOne (IsAnswer v wanted line)
+  one_in : (most_bytes < length line) ⊎ (length line ≤ most_bytes) → HasOne (IsAnswerBy IsKeyOf v end line)
   one_in (inl long) =
       let answer = told_refusal (codes "too long") in
       (answer, inl (long, refl), λ other h. elim h as (λ _. other ≡ answer) [ inl is ↦ is.1 | inr short ↦ let within = short.0 in absurd (omega arith) ])
   one_in (inr short) =
-      let one = one_within in
-      (one.0, inr (short, one.1), λ other h. elim h as (λ _. other ≡ one.0) [ inl long ↦ let past = long.0 in absurd (omega arith) | inr is ↦ one.2 other is.1 ])
+      let within = one_within in
+      (within.0, inr (short, within.1), λ other h. elim h as (λ _. other ≡ within.0) [ inl long ↦ let past = long.0 in absurd (omega arith) | inr is ↦ within.2 other is.1 ])
+
+pub one_answer_by : (IsKeyOf : List ℕ → List ℕ → Type 0) (v : VersionData) (end : LineEnd) (line : List ℕ) → HasOne (IsKeyOf (chars line)) → HasOne (IsAnswerBy IsKeyOf v end line)
+one_answer_by IsKeyOf v end line one = one_in IsKeyOf v end line one (cases_lt most_bytes (length line))
 
 pub one_answer : OneAnswer
-one_answer v wanted line sound = one_in v sound wanted line (cases_lt most_bytes (length line))
+one_answer v wanted line sound =
+    one_answer_by (IsNormalForm v wanted.form) v wanted.end line
+    (normal_form v wanted.form (chars line), IsNormalForm-normal_form v sound wanted.form (chars line), λ list is. normal_form_is v sound wanted.form (chars line) list is)
 
 -- ---- no byte that ends lines
 
@@ -233,38 +238,42 @@ told_no_end : (end : LineEnd) (key answer : List ℕ) → IsToldKey end key answ
 told_no_end end key answer (inl (free, is)) = subst (HasNo (byte_of end)) (sym is) (All-cons (not_byte (byte_of end)) 61 key (no_end end 61 (omega arith)) free)
 told_no_end end key answer (inr (some, is)) = subst (HasNo (byte_of end)) (sym is) (refusal_printed end (codes "line end in key") (printed_all (codes "line end in key") refl))
 
-within_no_end : (v : VersionData) (wanted : Wanted) (line answer : List ℕ) → length line ≤ most_bytes → IsAnswerWithin v wanted line answer → HasNo (byte_of wanted.end) answer
-within_no_end v wanted line answer short (inl (at, no_text, is)) =
-    subst (HasNo (byte_of wanted.end)) (sym is)
-    (refusal_printed wanted.end (not_utf8 at)
+within_no_end : (IsKeyOf : List ℕ → List ℕ → Type 0) (v : VersionData) (end : LineEnd) (line answer : List ℕ) → length line ≤ most_bytes → IsAnswerWithinBy IsKeyOf v end line answer → HasNo (byte_of end) answer
+within_no_end IsKeyOf v end line answer short (inl (at, no_text, is)) =
+    subst (HasNo (byte_of end)) (sym is)
+    (refusal_printed end (not_utf8 at)
     (All-append IsPrinted (codes "not UTF-8 at byte ") (decimal at) (printed_all (codes "not UTF-8 at byte ") refl) (printed_decimal at (place_within line at no_text.longest.within short))))
-within_no_end v wanted line answer short (inr (inl (at, code, lacks, is))) =
-    subst (HasNo (byte_of wanted.end)) (sym is)
-    (refusal_printed wanted.end (unassigned at code)
+within_no_end IsKeyOf v end line answer short (inr (inl (at, code, lacks, is))) =
+    subst (HasNo (byte_of end)) (sym is)
+    (refusal_printed end (unassigned at code)
     (All-append IsPrinted (codes "unassigned ") (code_digits code ++ (codes " at byte " ++ decimal at)) (printed_all (codes "unassigned ") refl)
     (All-append IsPrinted (code_digits code) (codes " at byte " ++ decimal at) (printed_code code)
     (All-append IsPrinted (codes " at byte ") (decimal at) (printed_all (codes " at byte ") refl) (printed_decimal at (place_within line at (place_of_first v line at code lacks) short))))))
-within_no_end v wanted line answer short (inr (inr (key, is, told))) = told_no_end wanted.end key answer told
+within_no_end IsKeyOf v end line answer short (inr (inr (key, is, told))) = told_no_end end key answer told
 
-answer_no_end : (v : VersionData) (wanted : Wanted) (line answer : List ℕ) → IsAnswer v wanted line answer → HasNo (byte_of wanted.end) answer
-answer_no_end v wanted line answer (inl (long, is)) = subst (HasNo (byte_of wanted.end)) (sym is) (refusal_printed wanted.end (codes "too long") (printed_all (codes "too long") refl))
-answer_no_end v wanted line answer (inr (short, within)) = within_no_end v wanted line answer short within
+answer_no_end : (IsKeyOf : List ℕ → List ℕ → Type 0) (v : VersionData) (end : LineEnd) (line answer : List ℕ) → IsAnswerBy IsKeyOf v end line answer → HasNo (byte_of end) answer
+answer_no_end IsKeyOf v end line answer (inl (long, is)) = subst (HasNo (byte_of end)) (sym is) (refusal_printed end (codes "too long") (printed_all (codes "too long") refl))
+answer_no_end IsKeyOf v end line answer (inr (short, within)) = within_no_end IsKeyOf v end line answer short within
 
-answers_no_end : (v : VersionData) (wanted : Wanted) (lines answers : List (List ℕ)) → AreAnswers v wanted lines answers → All (HasNo (byte_of wanted.end)) answers
-answers_no_end v wanted [] [] h = All-nil (HasNo (byte_of wanted.end))
-answers_no_end v wanted [] (answer ∷ answers) h = absurd h
-answers_no_end v wanted (line ∷ lines) [] h = absurd h
-answers_no_end v wanted (line ∷ lines) (answer ∷ answers) h =
-    All-cons (HasNo (byte_of wanted.end)) answer answers (answer_no_end v wanted line answer h.0) (answers_no_end v wanted lines answers h.1)
+answers_no_end : (IsKeyOf : List ℕ → List ℕ → Type 0) (v : VersionData) (end : LineEnd) (lines answers : List (List ℕ)) → AllZip (IsAnswerBy IsKeyOf v end) lines answers → All (HasNo (byte_of end)) answers
+answers_no_end IsKeyOf v end [] [] h = All-nil (HasNo (byte_of end))
+answers_no_end IsKeyOf v end [] (answer ∷ answers) h = absurd h
+answers_no_end IsKeyOf v end (line ∷ lines) [] h = absurd h
+answers_no_end IsKeyOf v end (line ∷ lines) (answer ∷ answers) h =
+    All-cons (HasNo (byte_of end)) answer answers (answer_no_end IsKeyOf v end line answer h.0) (answers_no_end IsKeyOf v end lines answers h.1)
 
-pub answers_are_lines : AnswersAreLines
-answers_are_lines v wanted lines answers h = record {
+pub answers_are_lines_by : (IsKeyOf : List ℕ → List ℕ → Type 0) (v : VersionData) (end : LineEnd) (lines answers : List (List ℕ)) → AllZip (IsAnswerBy IsKeyOf v end) lines answers
+    → AreLines end (ended end answers) answers
+answers_are_lines_by IsKeyOf v end lines answers h = record {
   whole = answers;
   rest = [];
   cut = record {
-    joined = sym (append-nil (ended wanted.end answers));
-    apart = answers_no_end v wanted lines answers h;
-    unended = All-nil (not_byte (byte_of wanted.end));
+    joined = sym (append-nil (ended end answers));
+    apart = answers_no_end IsKeyOf v end lines answers h;
+    unended = All-nil (not_byte (byte_of end));
   };
   lines_are = sym (append-nil answers);
 }
+
+pub answers_are_lines : AnswersAreLines
+answers_are_lines v wanted lines answers h = answers_are_lines_by (IsNormalForm v wanted.form) v wanted.end lines answers h

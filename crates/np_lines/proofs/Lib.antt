@@ -2,6 +2,7 @@ pub mod CutLemmas
 pub mod AnswerLemmas
 pub mod EndLemmas
 pub mod KeyedLemmas
+pub mod PushedLemmas
 pub mod StableLemmas
 pub mod StepLemmas
 pub mod TextCutLemmas

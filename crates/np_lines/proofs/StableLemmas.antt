@@ -1,5 +1,5 @@
--- Lines of a text of which each part is its own stabilized string.
-use Rattle.std.proofs.Common.{◌≡◌, ℕ, ◌≤◌, ◌+◌, ◌-◌, false, List, [], ◌∷◌, ◌++◌, length, chars, take, drop, IsUtf8, refl, sym, ap, subst, ◌∙◌, inl, inr, append_assoc, length-append, arith}
+-- Lines that have stabilized strings, and those of a text of which each part is its own.
+use Rattle.std.proofs.Common.{◌≡◌, ℕ, ◌≤◌, ◌+◌, ◌-◌, List, [], ◌∷◌, ◌++◌, length, chars, take, drop, IsUtf8, refl, sym, ap, subst, ◌∙◌, inl, inr, append_assoc, length-append, arith}
 use Rattle.std.proofs.lemmas.List.{drop_at, length-take-le, take_at, take-append-drop}
 use Rattle.std.proofs.lemmas.Str.{chars-append, encodes-chars, IsUtf8-append, IsUtf8-drop, IsCharBoundary-at_seam}
 use Rattle.std.specs.List.{slice_range}
@@ -11,10 +11,9 @@ use Rattle.np_forms.specs.Parts.{IsEachPartStable}
 use Rattle.np_forms.proofs.CopyLemmas.{IsUtf8-front}
 use Rattle.np_versions.specs.Versions.{VersionData}
 use Rattle.np_lines.specs.Answers.{Wanted, IsAnswer, most_bytes, told_key}
-use Rattle.np_lines.specs.Lines.{byte_of}
-use Rattle.np_lines.specs.declared.pending.Pending.{Pending}
-use Rattle.np_lines.specs.inside.Steps.{HasTaken, IsEnded}
-use Rattle.np_lines.proofs.StepLemmas.{goes-joined, nothing_begun, or-false}
+use Rattle.np_lines.specs.Lines.{byte_of, ended}
+use Rattle.np_lines.specs.Pushed.{ArePushed}
+use Rattle.np_lines.proofs.PushedLemmas.{pushed-key, pushed-part}
 
 module _ (v : VersionData) (wanted : Wanted) where
   -- the answer to a line that has a key
@@ -36,16 +35,12 @@ module _ (v : VersionData) (wanted : Wanted) where
       ∙ take_at (key ++ byte_of wanted.end ∷ []) behind (length key + 1) (omega (arith, length-append key (byte_of wanted.end ∷ []))) in
       out ∙ ap (λ l. old ++ 61 ∷ l) front
 
-  pub key-ended : (p q : Pending) (line key text behind : List ℕ) → IsUtf8 line → IsUtf8 key → IsAssigned v (chars line) → IsNormalForm v wanted.form (chars line) (chars key) → length line ≤ most_bytes → HasNo (byte_of wanted.end) key
-      → text ≡ key ++ byte_of wanted.end ∷ behind → p.line.items ≡ [] → p.is_long ≡ false → q.out.items ≡ p.out.items ++ 61 ∷ take (length key + 1) text → q.line.items ≡ [] → q.is_long ≡ false → q.any_refused ≡ p.any_refused → IsEnded v wanted p q line
-  key-ended p q line key text behind utf8 of_key assigned normal fits free is none short out nothing not_long told = record {
-    answer = told_key key;
-    is = λ rest begun.
-        subst (λ l. IsAnswer v wanted (l ++ line) (told_key key)) (sym (nothing_begun p rest none short begun)) (key-answer line key utf8 of_key assigned normal fits free);
-    out_is = ended-key p.out.items q.out.items text key behind is out;
-    begins = inl (not_long, nothing, omega arith);
-    told = told ∙ sym (or-false p.any_refused);
-  }
+  -- one more line, which has this key
+  pub pushed-line : (text rest line behind key keys later old mid new : List ℕ) → IsUtf8 line → IsUtf8 key → IsAssigned v (chars line) → IsNormalForm v wanted.form (chars line) (chars key) → length line ≤ most_bytes
+      → HasNo (byte_of wanted.end) line → HasNo (byte_of wanted.end) key → rest ≡ line ++ byte_of wanted.end ∷ behind → keys ≡ key ++ byte_of wanted.end ∷ later → new ≡ mid ++ 61 ∷ take (length key + 1) keys
+      → ArePushed (IsAnswer v wanted) wanted.end text rest old mid → ArePushed (IsAnswer v wanted) wanted.end text behind old new
+  pushed-line text rest line behind key keys later old mid new utf8 of_key assigned normal fits free of_free is of_keys out p =
+      pushed-key (IsAnswer v wanted) wanted.end text rest line behind key old mid new p is free (key-answer line key utf8 of_key assigned normal fits of_free) (ended-key mid new keys key later of_keys out)
 
   -- a line is a part of the text
   line-part : (stable front rest line behind : List ℕ) → IsUtf8 stable → IsUtf8 rest → IsUtf8 line → stable ≡ front ++ rest → rest ≡ line ++ byte_of wanted.end ∷ behind
@@ -55,13 +50,14 @@ module _ (v : VersionData) (wanted : Wanted) where
       ∙ chars-append front rest (IsUtf8-front stable front rest split utf8 of_rest)
       ∙ ap (λ l. chars front ++ l) (ap chars is ∙ chars-append line (byte_of wanted.end ∷ behind) of_line)
 
-  pub stable-line : (start p q : Pending) (stable rest line behind : List ℕ) → IsUtf8 stable → IsUtf8 rest → IsUtf8 line → rest ≡ line ++ byte_of wanted.end ∷ behind → HasNo (byte_of wanted.end) line → length line ≤ most_bytes
-      → p.line.items ≡ [] → p.is_long ≡ false → q.out.items ≡ p.out.items ++ 61 ∷ take (length line + 1) rest → q.line.items ≡ [] → q.is_long ≡ false → q.any_refused ≡ p.any_refused
-      → IsEachPartStable v wanted.form (chars stable) → HasTaken v wanted start p stable rest → IsEnded v wanted p q line
-  stable-line start p q stable rest line behind utf8 of_rest of_line is free fits none short out nothing not_long told each t =
-      let part = line-part stable t.front rest line behind utf8 of_rest of_line t.split is in
-      let own = each (chars t.front) (chars line) (chars (byte_of wanted.end ∷ behind)) part in
-      key-ended p q line line rest behind of_line of_line own.0 own.1 fits free is none short out nothing not_long told
+  pub stable-line : (stable rest line behind old mid new : List ℕ) → IsUtf8 stable → IsUtf8 rest → IsUtf8 line → rest ≡ line ++ byte_of wanted.end ∷ behind → HasNo (byte_of wanted.end) line → length line ≤ most_bytes
+      → new ≡ mid ++ 61 ∷ take (length line + 1) rest → IsEachPartStable v wanted.form (chars stable)
+      → ArePushed (IsAnswer v wanted) wanted.end stable rest old mid → ArePushed (IsAnswer v wanted) wanted.end stable behind old new
+  stable-line stable rest line behind old mid new utf8 of_rest of_line is free fits out each p =
+      let front = ended wanted.end p.lines in
+      let part = line-part stable front rest line behind utf8 of_rest of_line p.split is in
+      let own = each (chars front) (chars line) (chars (byte_of wanted.end ∷ behind)) part in
+      pushed-line stable rest line behind line rest behind old mid new of_line of_line own.0 own.1 fits free free is is out p
 
   -- the front that passes the quick check
   pub each_of : (text stable : List ℕ) (n : ℕ) → stable ≡ slice_range text 0 n → IsEachPartStable v wanted.form (chars (take n text)) → IsEachPartStable v wanted.form (chars stable)
@@ -70,34 +66,29 @@ module _ (v : VersionData) (wanted : Wanted) where
       subst (λ l. IsEachPartStable v wanted.form (chars l)) same each
 
   -- what is left of the text
-  module _ (p q : Pending) (text stable rest : List ℕ) (n : ℕ) (within : n ≤ length text) (of_stable : stable ≡ slice_range text 0 n) (t : HasTaken v wanted p q stable rest) where
+  module _ (text stable rest old new : List ℕ) (n : ℕ) (within : n ≤ length text) (of_stable : stable ≡ slice_range text 0 n) (p : ArePushed (IsAnswer v wanted) wanted.end stable rest old new) where
+    abbrev front : List ℕ
+    front = ended wanted.end p.lines
+
     same : stable ≡ take n text
     same = of_stable ∙ ap (λ k. take k text) (omega arith)
 
-    left : text ≡ t.front ++ (rest ++ drop n text)
-    left = sym (take-append-drop n text) ∙ ap (λ l. l ++ drop n text) (sym same ∙ t.split) ∙ append_assoc t.front rest (drop n text)
+    left : text ≡ front ++ (rest ++ drop n text)
+    left = sym (take-append-drop n text) ∙ ap (λ l. l ++ drop n text) (sym same ∙ p.split) ∙ append_assoc front rest (drop n text)
 
-    sizes : n ≡ length t.front + length rest
-    sizes = sym (length-take-le n text within) ∙ ap length (sym same ∙ t.split) ∙ length-append t.front rest
+    sizes : n ≡ length front + length rest
+    sizes = sym (length-take-le n text within) ∙ ap length (sym same ∙ p.split) ∙ length-append front rest
 
     pub left-place : length rest ≤ n
     left-place = omega (arith, sizes)
 
-    place : length t.front ≡ n - length rest
+    place : length front ≡ n - length rest
     place = omega (arith, sizes)
 
     pub left-boundary : IsUtf8 text → IsCharBoundary text n → IsUtf8 rest → IsCharBoundary text (n - length rest)
-    left-boundary utf8 at of_rest = subst (IsCharBoundary text) place (IsCharBoundary-at_seam text t.front (rest ++ drop n text) left (IsUtf8-append rest (drop n text) of_rest (IsUtf8-drop text n utf8 at)))
+    left-boundary utf8 at of_rest = subst (IsCharBoundary text) place (IsCharBoundary-at_seam text front (rest ++ drop n text) left (IsUtf8-append rest (drop n text) of_rest (IsUtf8-drop text n utf8 at)))
 
-    pub left-taken : (later : List ℕ) → later ≡ drop (n - length rest) text → HasTaken v wanted p q text later
-    left-taken later is =
-        let behind : later ≡ rest ++ drop n text = is ∙ ap (λ k. drop k text) (sym place) ∙ ap (drop (length t.front)) left ∙ drop_at t.front (rest ++ drop n text) (length t.front) refl in
-        record { front = t.front; split = left ∙ ap (λ l. t.front ++ l) (sym behind); goes = t.goes }
-
-  -- more of a text was taken
-  pub taken-more : (p q r : Pending) (text rest left : List ℕ) → HasTaken v wanted p q text rest → HasTaken v wanted q r rest left → HasTaken v wanted p r text left
-  taken-more p q r text rest left t u = record {
-    front = t.front ++ u.front;
-    split = t.split ∙ ap (λ l. t.front ++ l) u.split ∙ sym (append_assoc t.front u.front left);
-    goes = goes-joined v wanted p q r t.front u.front t.goes u.goes;
-  }
+    pub left-pushed : (later : List ℕ) → later ≡ drop (n - length rest) text → ArePushed (IsAnswer v wanted) wanted.end text later old new
+    left-pushed later is =
+        let behind : later ≡ rest ++ drop n text = is ∙ ap (λ k. drop k text) (sym place) ∙ ap (drop (length front)) left ∙ drop_at front (rest ++ drop n text) (length front) refl in
+        pushed-part (IsAnswer v wanted) wanted.end stable rest later old new p text (left ∙ ap (λ l. front ++ l) (sym behind))

@@ -5,9 +5,8 @@ use Rattle.std.proofs.lemmas.List.Elements.{AllZip-push}
 use Rattle.std.proofs.lemmas.List.Folds.{list_any-append}
 use Rattle.std.specs.List.{list_any}
 use Rattle.np_code_points.specs.Lines.{HasNo}
-use Rattle.np_versions.specs.Versions.{VersionData}
-use Rattle.np_lines.specs.Answers.{Wanted, IsAnswer, is_refusal}
-use Rattle.np_lines.specs.Lines.{IsCut, byte_of}
+use Rattle.np_lines.specs.Answers.{is_refusal}
+use Rattle.np_lines.specs.Lines.{IsCut, LineEnd, byte_of}
 use Rattle.np_lines.specs.declared.pending.Pending.{Pending}
 use Rattle.np_lines.specs.inside.Steps.{Finishes, Goes, HasBegun, IsAnswered, IsEnded, IsNew}
 use Rattle.np_lines.proofs.CutLemmas.{cut-nil, cut-more, cut-end, ended-push, last_line-filled}
@@ -33,11 +32,11 @@ some_begun p rest (inr long) (inr (is_long, none, many)) e = let nothing = ap le
 
 -- ---- what came and was answered
 
-pub answered-new : (v : VersionData) (wanted : Wanted) (p : Pending) → IsNew p → IsAnswered v wanted [] [] p
-answered-new v wanted p h = record {
+pub answered-new : (Is : List ℕ → List ℕ → Type 0) (end : LineEnd) (p : Pending) → IsNew p → IsAnswered Is end [] [] p
+answered-new Is end p h = record {
   lines = [];
   rest = [];
-  cut = cut-nil wanted.end;
+  cut = cut-nil end;
   begun = inl (h.short, h.line, omega arith);
   answers = [];
   answers_are = tt;
@@ -45,8 +44,8 @@ answered-new v wanted p h = record {
   told = h.told;
 }
 
-pub answered-same : (v : VersionData) (wanted : Wanted) (came done : List ℕ) (p q : Pending) → q.line.items ≡ p.line.items → q.is_long ≡ p.is_long → q.any_refused ≡ p.any_refused → IsAnswered v wanted came done p → IsAnswered v wanted came done q
-answered-same v wanted came done p q line long told a = record {
+pub answered-same : (Is : List ℕ → List ℕ → Type 0) (end : LineEnd) (came done : List ℕ) (p q : Pending) → q.line.items ≡ p.line.items → q.is_long ≡ p.is_long → q.any_refused ≡ p.any_refused → IsAnswered Is end came done p → IsAnswered Is end came done q
+answered-same Is end came done p q line long told a = record {
   lines = a.lines;
   rest = a.rest;
   cut = a.cut;
@@ -59,33 +58,33 @@ answered-same v wanted came done p q line long told a = record {
 
 -- ---- steps
 
-pub goes-none : (v : VersionData) (wanted : Wanted) (p : Pending) → Goes v wanted p p []
-goes-none v wanted p = record {
+pub goes-none : (Is : List ℕ → List ℕ → Type 0) (end : LineEnd) (p : Pending) → Goes Is end p p []
+goes-none Is end p = record {
   more = [];
   out_is = sym (append-nil p.out.items);
-  carries = λ came done a. subst (λ l. IsAnswered v wanted l (done ++ []) p) (sym (append-nil came)) (subst (λ l. IsAnswered v wanted came l p) (sym (append-nil done)) a);
+  carries = λ came done a. subst (λ l. IsAnswered Is end l (done ++ []) p) (sym (append-nil came)) (subst (λ l. IsAnswered Is end came l p) (sym (append-nil done)) a);
 }
 
-pub goes-joined : (v : VersionData) (wanted : Wanted) (p q r : Pending) (front back : List ℕ) → Goes v wanted p q front → Goes v wanted q r back → Goes v wanted p r (front ++ back)
-goes-joined v wanted p q r front back g h = record {
+pub goes-joined : (Is : List ℕ → List ℕ → Type 0) (end : LineEnd) (p q r : Pending) (front back : List ℕ) → Goes Is end p q front → Goes Is end q r back → Goes Is end p r (front ++ back)
+goes-joined Is end p q r front back g h = record {
   more = g.more ++ h.more;
   out_is = h.out_is ∙ ap (λ l. l ++ h.more) g.out_is ∙ append_assoc p.out.items g.more h.more;
   carries = λ came done a.
-      subst (λ l. IsAnswered v wanted l (done ++ (g.more ++ h.more)) r) (append_assoc came front back)
-      (subst (λ l. IsAnswered v wanted ((came ++ front) ++ back) l r) (append_assoc done g.more h.more)
+      subst (λ l. IsAnswered Is end l (done ++ (g.more ++ h.more)) r) (append_assoc came front back)
+      (subst (λ l. IsAnswered Is end ((came ++ front) ++ back) l r) (append_assoc done g.more h.more)
       (h.carries (came ++ front) (done ++ g.more) (g.carries came done a)));
 }
 
 -- bytes without an end
-pub goes-on : (v : VersionData) (wanted : Wanted) (p q : Pending) (bytes : List ℕ) → HasNo (byte_of wanted.end) bytes → q.out.items ≡ p.out.items → q.any_refused ≡ p.any_refused
-    → ((rest : List ℕ) → HasBegun p rest → HasBegun q (rest ++ bytes)) → Goes v wanted p q bytes
-goes-on v wanted p q bytes free out told begun = record {
+pub goes-on : (Is : List ℕ → List ℕ → Type 0) (end : LineEnd) (p q : Pending) (bytes : List ℕ) → HasNo (byte_of end) bytes → q.out.items ≡ p.out.items → q.any_refused ≡ p.any_refused
+    → ((rest : List ℕ) → HasBegun p rest → HasBegun q (rest ++ bytes)) → Goes Is end p q bytes
+goes-on Is end p q bytes free out told begun = record {
   more = [];
   out_is = out ∙ sym (append-nil p.out.items);
   carries = λ came done a. record {
     lines = a.lines;
     rest = a.rest ++ bytes;
-    cut = cut-more wanted.end came a.lines a.rest bytes a.cut free;
+    cut = cut-more end came a.lines a.rest bytes a.cut free;
     begun = begun a.rest a.begun;
     answers = a.answers;
     answers_are = a.answers_are;
@@ -106,20 +105,20 @@ one_more_told old new answers answer told before =
     ∙ sym (list_any-append is_refusal answers (answer ∷ []))
 
 -- the rest of a line and its end
-pub goes-end : (v : VersionData) (wanted : Wanted) (p q : Pending) (bytes : List ℕ) → HasNo (byte_of wanted.end) bytes → IsEnded v wanted p q bytes → Goes v wanted p q (bytes ++ byte_of wanted.end ∷ [])
-goes-end v wanted p q bytes free e = record {
-  more = e.answer ++ byte_of wanted.end ∷ [];
+pub goes-end : (Is : List ℕ → List ℕ → Type 0) (end : LineEnd) (p q : Pending) (bytes : List ℕ) → HasNo (byte_of end) bytes → IsEnded Is end p q bytes → Goes Is end p q (bytes ++ byte_of end ∷ [])
+goes-end Is end p q bytes free e = record {
+  more = e.answer ++ byte_of end ∷ [];
   out_is = e.out_is;
   carries = λ came done a. record {
     lines = a.lines ++ (a.rest ++ bytes) ∷ [];
     rest = [];
     cut =
-        subst (λ l. IsCut wanted.end l (a.lines ++ (a.rest ++ bytes) ∷ []) []) (append_assoc came bytes (byte_of wanted.end ∷ []))
-        (cut-end wanted.end (came ++ bytes) a.lines (a.rest ++ bytes) (cut-more wanted.end came a.lines a.rest bytes a.cut free));
+        subst (λ l. IsCut end l (a.lines ++ (a.rest ++ bytes) ∷ []) []) (append_assoc came bytes (byte_of end ∷ []))
+        (cut-end end (came ++ bytes) a.lines (a.rest ++ bytes) (cut-more end came a.lines a.rest bytes a.cut free));
     begun = e.begins;
     answers = a.answers ++ e.answer ∷ [];
-    answers_are = AllZip-push (IsAnswer v wanted) a.lines a.answers (a.rest ++ bytes) e.answer a.answers_are (e.is a.rest a.begun);
-    done_is = ap (λ l. l ++ (e.answer ++ byte_of wanted.end ∷ [])) a.done_is ∙ sym (ended-push wanted.end a.answers e.answer);
+    answers_are = AllZip-push (Is) a.lines a.answers (a.rest ++ bytes) e.answer a.answers_are (e.is a.rest a.begun);
+    done_is = ap (λ l. l ++ (e.answer ++ byte_of end ∷ [])) a.done_is ∙ sym (ended-push end a.answers e.answer);
     told = one_more_told p.any_refused q.any_refused a.answers e.answer e.told a.told;
   };
 }
@@ -127,9 +126,9 @@ goes-end v wanted p q bytes free e = record {
 -- ---- the end
 
 -- one has
-pub finishes-some : (v : VersionData) (wanted : Wanted) (p q : Pending) → ((p.line.items ≢ []) ⊎ (p.is_long ≡ true)) → IsEnded v wanted p q [] → Finishes v wanted p q
-finishes-some v wanted p q some e = record {
-  more = e.answer ++ byte_of wanted.end ∷ [];
+pub finishes-some : (Is : List ℕ → List ℕ → Type 0) (end : LineEnd) (p q : Pending) → ((p.line.items ≢ []) ⊎ (p.is_long ≡ true)) → IsEnded Is end p q [] → Finishes Is end p q
+finishes-some Is end p q some e = record {
+  more = e.answer ++ byte_of end ∷ [];
   out_is = e.out_is;
   whole = λ came done a. record {
     lines = a.lines ++ a.rest ∷ [];
@@ -140,8 +139,8 @@ finishes-some v wanted p q some e = record {
       lines_are = ap (λ ls. a.lines ++ ls) (sym (last_line-filled a.rest (some_begun p a.rest some a.begun)));
     };
     answers = a.answers ++ e.answer ∷ [];
-    answers_are = AllZip-push (IsAnswer v wanted) a.lines a.answers a.rest e.answer a.answers_are (subst (λ l. IsAnswer v wanted l e.answer) (append-nil a.rest) (e.is a.rest a.begun));
-    made_is = ap (λ l. l ++ (e.answer ++ byte_of wanted.end ∷ [])) a.done_is ∙ sym (ended-push wanted.end a.answers e.answer);
+    answers_are = AllZip-push (Is) a.lines a.answers a.rest e.answer a.answers_are (subst (λ l. Is l e.answer) (append-nil a.rest) (e.is a.rest a.begun));
+    made_is = ap (λ l. l ++ (e.answer ++ byte_of end ∷ [])) a.done_is ∙ sym (ended-push end a.answers e.answer);
     told = one_more_told p.any_refused q.any_refused a.answers e.answer e.told a.told;
   };
 }

@@ -16,13 +16,17 @@ pub use Rattle.np_lines.specs.declared.lines.Wanted.{Wanted}
 abbrev pub most_bytes : ℕ
 most_bytes = 65536
 
--- the stabilized string of a line (UAX #15 section 12): the line is a text of assigned code points, and this is its normal form
-pub record IsKey (v : VersionData) (form : Form) (line key : List ℕ) : Type 0 where
+-- the key of a line, by what the key of a string of code points is: the line is a text of assigned code points, and this is its key
+pub record IsKeyBy (IsKeyOf : List ℕ → List ℕ → Type 0) (v : VersionData) (line key : List ℕ) : Type 0 where
   pub valid : IsUtf8 line
   pub assigned : IsAssigned v (chars line)
   pub list : List ℕ
-  pub is : IsNormalForm v form (chars line) list
+  pub is : IsKeyOf (chars line) list
   pub key_is : key ≡ encode_utf8_all list
+
+-- the stabilized string of a line (UAX #15 section 12): its normal form
+abbrev pub IsKey : VersionData → Form → List ℕ → List ℕ → Type 0
+IsKey v form = IsKeyBy (IsNormalForm v form) v
 
 -- a line is no UTF-8 behind its longest prefix that is
 pub record IsNoText (line : List ℕ) (at : ℕ) : Type 0 where
@@ -52,17 +56,21 @@ IsToldKey end key answer =
     ⊎ ((¬ HasNo (byte_of end) key) × (answer ≡ told_refusal (codes "line end in key")))
 
 -- the answer to a line within the limit: where it stops being text; else its first code point that is not assigned; else its key
-abbrev pub IsAnswerWithin : VersionData → Wanted → List ℕ → List ℕ → Type 0
-IsAnswerWithin v wanted line answer =
+abbrev pub IsAnswerWithinBy : (List ℕ → List ℕ → Type 0) → VersionData → LineEnd → List ℕ → List ℕ → Type 0
+IsAnswerWithinBy IsKeyOf v end line answer =
     ((at : ℕ) × IsNoText line at × (answer ≡ told_refusal (not_utf8 at)))
     ⊎ (((at : ℕ) × (code : ℕ) × IsUnassigned v line at code × (answer ≡ told_refusal (unassigned at code)))
-    ⊎ ((key : List ℕ) × IsKey v wanted.form line key × IsToldKey wanted.end key answer))
+    ⊎ ((key : List ℕ) × IsKeyBy IsKeyOf v line key × IsToldKey end key answer))
 
 -- the answer to a line, without the byte that ends it; one that is too long is refused whatever it has
-abbrev pub IsAnswer : VersionData → Wanted → List ℕ → List ℕ → Type 0
-IsAnswer v wanted line answer =
+abbrev pub IsAnswerBy : (List ℕ → List ℕ → Type 0) → VersionData → LineEnd → List ℕ → List ℕ → Type 0
+IsAnswerBy IsKeyOf v end line answer =
     ((most_bytes < length line) × (answer ≡ told_refusal (codes "too long")))
-    ⊎ ((length line ≤ most_bytes) × IsAnswerWithin v wanted line answer)
+    ⊎ ((length line ≤ most_bytes) × IsAnswerWithinBy IsKeyOf v end line answer)
+
+-- the answer to a line whose key is its stabilized string
+abbrev pub IsAnswer : VersionData → Wanted → List ℕ → List ℕ → Type 0
+IsAnswer v wanted = IsAnswerBy (IsNormalForm v wanted.form) v wanted.end
 
 -- each line has its answer, in the order of the lines
 abbrev pub AreAnswers : VersionData → Wanted → List (List ℕ) → List (List ℕ) → Type 0

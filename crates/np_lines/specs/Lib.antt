@@ -1,5 +1,6 @@
 pub mod Lines
 pub mod Answers
+pub mod Pushed
 pub mod Runs
 pub mod Whole
 pub mod Laws

@@ -2,17 +2,17 @@
 ghost use Rattle.std.specs.Prelude.{◌≡◌, ◌++◌, ◌∷◌, ◌≤◌, false, length, string_bytes, IfOk, IsTrue, OnOk};
 ghost use Rattle.np_code_points.specs.Codes.{unassigned};
 ghost use Rattle.np_code_points.specs.Lines.{HasNo};
-ghost use Rattle.np_lines.specs.Answers.{IsAnswer, IsAnswerWithin, IsToldKey, not_utf8, told_key, told_refusal};
+ghost use Rattle.np_lines.specs.Answers.{IsAnswerBy, IsAnswerWithinBy, IsToldKey, not_utf8, told_key, told_refusal};
 ghost use Rattle.np_lines.specs.Lines.{byte_of};
 ghost use Rattle.np_lines.specs.inside.Steps.{IsTold};
 
-use crate::lines::{LineEnd, Wanted};
+use crate::line_keys::LineKeys;
+use crate::lines::LineEnd;
 use np_code_points::Memory;
 use np_code_points::codes::write_unassigned;
 use np_code_points::lines::cut;
 use np_code_points::text::text_of;
-use np_forms::{NpssFault, lend_npss};
-use np_versions::NormTable;
+use np_forms::NpssFault;
 use std::alloc::Global;
 
 /// The most bytes that a line may have, without the byte that ends it.
@@ -74,17 +74,17 @@ fn unassigned_text(alloc: Global, at: usize, code: char) -> Result<String, Memor
 }
 
 /// Appends the answer to a line that is a text within the limit. Answers whether it is refused.
-pub(crate) fn push_text_answer<T: NormTable>(
+pub(crate) fn push_text_answer<K: LineKeys>(
     alloc: Global,
-    table: &T,
-    wanted: Wanted,
+    keys: &K,
+    end: LineEnd,
     text: &str,
     out: &mut Vec<u8>,
 ) -> Result<bool, Memory>
-    ensures { IfOk result (IsTold (IsAnswerWithin (T.model table.now) wanted text.now) out.old.items out.new.items) }
+    ensures { IfOk result (IsTold (IsAnswerWithinBy (K.is_key keys.now) (K.version keys.now) end text.now) out.old.items out.new.items) }
 {
-    match lend_npss(alloc, table, wanted.form, text) {
-        Ok(key) => push_told_key(out, wanted.end, key.as_str()),
+    match keys.lend_key(alloc, text) {
+        Ok(key) => push_told_key(out, end, key.as_str()),
         Err(NpssFault::Unassigned { at, code }) => {
             let why = unassigned_text(alloc, at, code)?;
             push_refusal(out, why.as_str())?;
@@ -95,21 +95,21 @@ pub(crate) fn push_text_answer<T: NormTable>(
 }
 
 /// Appends the answer to a line, without the byte that ends it. Answers whether it is refused.
-pub(crate) fn push_answer<T: NormTable>(
+pub(crate) fn push_answer<K: LineKeys>(
     alloc: Global,
-    table: &T,
-    wanted: Wanted,
+    keys: &K,
+    end: LineEnd,
     line: &[u8],
     out: &mut Vec<u8>,
 ) -> Result<bool, Memory>
-    ensures { IfOk result (IsTold (IsAnswer (T.model table.now) wanted line.now) out.old.items out.new.items) }
+    ensures { IfOk result (IsTold (IsAnswerBy (K.is_key keys.now) (K.version keys.now) end line.now) out.old.items out.new.items) }
 {
     if line.len() > LIMIT {
         push_refusal(out, "too long")?;
         return Ok(true);
     }
     match text_of(line) {
-        Ok(text) => push_text_answer(alloc, table, wanted, text, out),
+        Ok(text) => push_text_answer(alloc, keys, end, text, out),
         Err(fault) => {
             let why = not_utf8_text(alloc, fault.at)?;
             push_refusal(out, why.as_str())?;

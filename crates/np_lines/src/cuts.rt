@@ -22,7 +22,7 @@ pub(crate) fn cut_text(bytes: &[u8]) -> (&str, &[u8])
 }
 
 /// The first line of a text, without what ends it, and what is behind that; none where no line ends in the text.
-pub(crate) fn cut_line(text: &str, end: LineEnd) -> Option<(&str, &str)>
+pub fn cut_line(text: &str, end: LineEnd) -> Option<(&str, &str)>
     ensures cut { IfSome result (λ parts. text.now ≡ parts.0.now ++ byte_of end ∷ parts.1.now) }
     ensures line { IfSome result (λ parts. HasNo (byte_of end) parts.0.now) }
     ensures utf8 { IfSome result (λ parts. IsUtf8 parts.0.now × IsUtf8 parts.1.now) }

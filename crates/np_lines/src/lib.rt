@@ -11,12 +11,16 @@ mod answers;
 mod cuts;
 mod keyed;
 pub mod laws;
+mod line_keys;
 mod lines;
 mod pending;
 mod runs;
+mod stable;
 mod whole;
 
 pub use answers::LIMIT;
+pub use cuts::cut_line;
+pub use line_keys::LineKeys;
 pub use lines::{LineEnd, Wanted};
-pub use runs::{LinesFault, answer_lines};
-pub use whole::{Answers, answer_bytes};
+pub use runs::{LinesFault, answer_lines, answer_lines_by};
+pub use whole::{Answers, answer_bytes, answer_bytes_by};

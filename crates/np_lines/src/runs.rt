@@ -2,11 +2,14 @@
 ghost use Rattle.std.specs.Prelude.{◌≡◌, ◌↔◌, ◌≤◌, ℕ, [], false, true, length, take, vec_len, Err, IfErr, IfOk, IsErr, OnErr, OnOk};
 ghost use Rattle.std.specs.Io.KnownBytes.{Appends, Consumes, IsAtEnd};
 ghost use Rattle.np_code_points.specs.Watched.{device_of, has_failed};
-ghost use Rattle.np_lines.specs.Runs.{IsRunCut, RunEnds};
+ghost use Rattle.np_lines.specs.Answers.{IsAnswerBy};
+ghost use Rattle.np_lines.specs.Runs.{IsRunCut, RunEnds, RunEndsBy};
 ghost use Rattle.np_lines.specs.inside.Steps.{IsBetweenReads, IsNew, IsPieceAnswered, IsPieceCut, IsRestAnswered, IsRestCut};
 
-use crate::lines::Wanted;
+use crate::line_keys::LineKeys;
+use crate::lines::{LineEnd, Wanted};
 use crate::pending::Pending;
+use crate::stable::StableKeys;
 use np_code_points::Memory;
 use np_code_points::output::{flush_once, write_whole};
 use np_code_points::pieces::{PIECE, new_piece, read_piece};
@@ -53,22 +56,22 @@ fn write_out<W: Write>(pending: &mut Pending, target: &mut Watched<W>) -> Result
 }
 
 /// Answers the lines that end in a piece, and writes the answers.
-fn answer_piece<W: Write, T: NormTable>(
-    table: &T,
-    wanted: Wanted,
+fn answer_piece<W: Write, K: LineKeys>(
+    keys: &K,
+    end: LineEnd,
     pending: &mut Pending,
     target: &mut Watched<W>,
     piece: &[u8],
 ) -> Result<(), LinesFault>
     requires nothing { pending.old.out.items ≡ [] }
     requires clear { has_failed target.old ≡ false }
-    ensures ok { OnOk result (IsPieceAnswered (T.model table.now) wanted pending.old pending.new
+    ensures ok { OnOk result (IsPieceAnswered (IsAnswerBy (K.is_key keys.now) (K.version keys.now) end) end pending.old pending.new
         (W.contents (device_of target.old)) (W.contents (device_of target.new)) piece.now) }
-    ensures err { IfErr result (IsPieceCut (T.model table.now) wanted pending.old
+    ensures err { IfErr result (IsPieceCut (IsAnswerBy (K.is_key keys.now) (K.version keys.now) end) end pending.old
         (W.contents (device_of target.old)) (W.contents (device_of target.new)) piece.now) }
     ensures failed { result ≡ Err LinesFault.WriteFailed ↔ (has_failed target.new ≡ true) }
 {
-    let Ok(()) = pending.take_piece(table, wanted, piece) else {
+    let Ok(()) = pending.take_piece(keys, end, piece) else {
         return Err(LinesFault::Memory);
     };
     write_out(pending, target)
@@ -76,19 +79,21 @@ fn answer_piece<W: Write, T: NormTable>(
 
 /// Answers the last line, where it lacks the byte that ends lines, writes its answer and flushes once.
 /// Answers whether a line of the input was refused.
-fn answer_rest<W: Write, T: NormTable>(
-    table: &T,
-    wanted: Wanted,
+fn answer_rest<W: Write, K: LineKeys>(
+    keys: &K,
+    end: LineEnd,
     pending: &mut Pending,
     target: &mut Watched<W>,
 ) -> Result<bool, LinesFault>
     requires nothing { pending.old.out.items ≡ [] }
     requires clear { has_failed target.old ≡ false }
-    ensures ok { IfOk result (IsRestAnswered (T.model table.now) wanted pending.old (W.contents (device_of target.old)) (W.contents (device_of target.new))) }
-    ensures err { IfErr result (IsRestCut (T.model table.now) wanted pending.old (W.contents (device_of target.old)) (W.contents (device_of target.new))) }
+    ensures ok { IfOk result (IsRestAnswered (IsAnswerBy (K.is_key keys.now) (K.version keys.now) end) end pending.old
+        (W.contents (device_of target.old)) (W.contents (device_of target.new))) }
+    ensures err { IfErr result (IsRestCut (IsAnswerBy (K.is_key keys.now) (K.version keys.now) end) end pending.old
+        (W.contents (device_of target.old)) (W.contents (device_of target.new))) }
     ensures failed { result ≡ Err LinesFault.WriteFailed ↔ (has_failed target.new ≡ true) }
 {
-    let Ok(()) = pending.finish(table, wanted) else {
+    let Ok(()) = pending.finish(keys, end) else {
         return Err(LinesFault::Memory);
     };
     write_out(pending, target)?;
@@ -99,9 +104,9 @@ fn answer_rest<W: Write, T: NormTable>(
 }
 
 /// Reads, answers and writes up to the end of the input.
-fn answer_pieces<R: Read, W: Write, T: NormTable>(
-    table: &T,
-    wanted: Wanted,
+fn answer_pieces<R: Read, W: Write, K: LineKeys>(
+    keys: &K,
+    end: LineEnd,
     pending: &mut Pending,
     source: &mut Watched<R>,
     target: &mut Watched<W>,
@@ -109,14 +114,14 @@ fn answer_pieces<R: Read, W: Write, T: NormTable>(
     requires begins { IsNew pending.old }
     requires reads { has_failed source.old ≡ false }
     requires writes { has_failed target.old ≡ false }
-    ensures ok { OnOk result (IsBetweenReads (T.model table.now) wanted (record {
+    ensures ok { OnOk result (IsBetweenReads (IsAnswerBy (K.is_key keys.now) (K.version keys.now) end) end (record {
       in_before = R.remaining (device_of source.old);
       in_after = R.remaining (device_of source.new);
       out_before = W.contents (device_of target.old);
       out_after = W.contents (device_of target.new);
     }) pending.new) }
     ensures end { OnOk result (IsAtEnd (R.remaining (device_of source.new))) }
-    ensures err { IfErr result (IsRunCut (T.model table.now) wanted (record {
+    ensures err { IfErr result (IsRunCut (IsAnswerBy (K.is_key keys.now) (K.version keys.now) end) end (record {
       in_before = R.remaining (device_of source.old);
       in_after = R.remaining (device_of source.new);
       out_before = W.contents (device_of target.old);
@@ -140,8 +145,36 @@ fn answer_pieces<R: Read, W: Write, T: NormTable>(
             return Err(LinesFault::TooLarge);
         };
         total = sum;
-        answer_piece(table, wanted, pending, target, &piece[..n])?;
+        answer_piece(keys, end, pending, target, &piece[..n])?;
     }
+}
+
+/// Answers each line of an input, as it is read, as [`answer_lines`] does, by what gives lines their keys.
+///
+/// # Errors
+///
+/// Those of [`answer_lines`].
+pub fn answer_lines_by<R: Read, W: Write, K: LineKeys>(
+    alloc: Global,
+    keys: &K,
+    end: LineEnd,
+    source: &mut Watched<R>,
+    target: &mut Watched<W>,
+) -> Result<bool, LinesFault>
+    ensures ends { RunEndsBy (IsAnswerBy (K.is_key keys.now) (K.version keys.now) end) end (record {
+      in_before = R.remaining (device_of source.old);
+      in_after = R.remaining (device_of source.new);
+      out_before = W.contents (device_of target.old);
+      out_after = W.contents (device_of target.new);
+    }) result }
+    ensures read { result ≡ Err LinesFault.ReadFailed ↔ (has_failed source.new ≡ true) }
+    ensures write { result ≡ Err LinesFault.WriteFailed ↔ (has_failed target.new ≡ true) }
+{
+    source.clear();
+    target.clear();
+    let mut pending = Pending::new(alloc);
+    answer_pieces(keys, end, &mut pending, source, target)?;
+    answer_rest(keys, end, &mut pending, target)
 }
 
 /// Answers each line of an input, as it is read: `=` and the key of the line, or `!` and why it has none,
@@ -185,9 +218,9 @@ pub fn answer_lines<R: Read, W: Write, T: NormTable>(
     ensures read { result ≡ Err LinesFault.ReadFailed ↔ (has_failed source.new ≡ true) }
     ensures write { result ≡ Err LinesFault.WriteFailed ↔ (has_failed target.new ≡ true) }
 {
-    source.clear();
-    target.clear();
-    let mut pending = Pending::new(alloc);
-    answer_pieces(table, wanted, &mut pending, source, target)?;
-    answer_rest(table, wanted, &mut pending, target)
+    let keys = StableKeys {
+        table,
+        form: wanted.form,
+    };
+    answer_lines_by(alloc, &keys, wanted.end, source, target)
 }

@@ -1,11 +1,14 @@
 //! Bytes that are all here, answered line by line at once.
 ghost use Rattle.std.specs.Prelude.{IfOk, OnOk};
-ghost use Rattle.np_lines.specs.Whole.{IsAllAnswered};
+ghost use Rattle.np_lines.specs.Answers.{IsAnswerBy};
+ghost use Rattle.np_lines.specs.Whole.{IsAllAnswered, IsAllAnsweredBy};
 ghost use Rattle.np_lines.specs.inside.Steps.{Goes};
 
 use crate::answers::LIMIT;
-use crate::lines::Wanted;
+use crate::line_keys::LineKeys;
+use crate::lines::{LineEnd, Wanted};
 use crate::pending::Pending;
+use crate::stable::StableKeys;
 use np_code_points::Memory;
 use np_versions::NormTable;
 use std::alloc::Global;
@@ -21,21 +24,40 @@ pub struct Answers {
 
 /// Takes bytes in, so few at a time that a line which is too long lies whole in no piece: nothing is looked at once for
 /// each such line.
-fn take_all<T: NormTable>(
+fn take_all<K: LineKeys>(
     pending: &mut Pending,
-    table: &T,
-    wanted: Wanted,
+    keys: &K,
+    end: LineEnd,
     bytes: &[u8],
 ) -> Result<(), Memory>
-    ensures { OnOk result (Goes (T.model table.now) wanted pending.old pending.new bytes.now) }
+    ensures { OnOk result (Goes (IsAnswerBy (K.is_key keys.now) (K.version keys.now) end) end pending.old pending.new bytes.now) }
 {
     let mut rest = bytes;
     'pieces: while !rest.is_empty() {
         let (piece, behind) = rest.split_at(rest.len().min(LIMIT));
-        pending.take_piece(table, wanted, piece)?;
+        pending.take_piece(keys, end, piece)?;
         rest = behind;
     }
     Ok(())
+}
+
+/// Answers each line of bytes that are all here, as [`answer_bytes`] does, by what gives lines their keys.
+///
+/// # Errors
+///
+/// `Memory` where memory ran out.
+pub fn answer_bytes_by<K: LineKeys>(
+    alloc: Global,
+    keys: &K,
+    end: LineEnd,
+    bytes: &[u8],
+) -> Result<Answers, Memory>
+    ensures { IfOk result (λ made. IsAllAnsweredBy (IsAnswerBy (K.is_key keys.now) (K.version keys.now) end) end bytes.now made.bytes.items made.any_refused) }
+{
+    let mut pending = Pending::new(alloc);
+    take_all(&mut pending, keys, end, bytes)?;
+    pending.finish(keys, end)?;
+    Ok(pending.into_answers())
 }
 
 /// Answers each line of bytes that are all here, as `answer_lines` does those of an input: `=` and the key of the
@@ -54,8 +76,9 @@ pub fn answer_bytes<T: NormTable>(
 ) -> Result<Answers, Memory>
     ensures { IfOk result (λ made. IsAllAnswered (T.model table.now) wanted bytes.now made.bytes.items made.any_refused) }
 {
-    let mut pending = Pending::new(alloc);
-    take_all(&mut pending, table, wanted, bytes)?;
-    pending.finish(table, wanted)?;
-    Ok(pending.into_answers())
+    let keys = StableKeys {
+        table,
+        form: wanted.form,
+    };
+    answer_bytes_by(alloc, &keys, wanted.end, bytes)
 }

@@ -1,3 +1,4 @@
+pub mod CaselessLineKeys
 pub mod LineCommands
 pub mod LineKeys
 pub mod LineWords

@@ -41,7 +41,7 @@ fn told(fault: LinesFault) -> JobFault
 }
 
 /// The status of a run that answered each line.
-fn status_of_run(is_strict: bool, any_refused: bool) -> u8
+pub(crate) fn status_of_run(is_strict: bool, any_refused: bool) -> u8
     ensures { result ≡ lines_status is_strict any_refused }
 {
     if is_strict && any_refused {

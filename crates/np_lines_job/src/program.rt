@@ -4,9 +4,12 @@ ghost use Rattle.np_jobs.specs.Streams.{stream_of};
 ghost use Rattle.np_lines_job.specs.LineWords.{asked_by, asked_of, lines_usage};
 ghost use Rattle.np_lines_job.specs.LinesProgram.{EndsOverFiles, ProgramEnds};
 
-use crate::words::{LinesJob, lines_usage_text, parse_lines};
+use crate::caseless::run_over_folded;
+use crate::words::{LinesJob, lines_usage_text, lines_version_text, parse_lines};
+use np_code_points::watched::Watched;
+use np_habits::{KnownWords, refusal_line, refused_in};
 use np_jobs::{
-    Opener, Program, Resources, Streaming, Streams, run_over_version, run_program, show_usage,
+    Opener, Program, Resources, Streaming, Streams, run_over_version, run_program, show_usage, tell,
 };
 use np_words::WordsFault;
 use std::alloc::Global;
@@ -50,12 +53,47 @@ impl Program for NpssLines {
                 &mut streams.error,
                 lines_usage_text(),
             )),
+            LinesJob::Version => Ok(show_usage(
+                with.alloc,
+                &mut streams.output,
+                &mut streams.error,
+                lines_version_text(),
+            )),
             LinesJob::Answer {
                 asked,
                 shows_progress: _,
                 files,
             } => run_over_version(with, &Streaming { job: *asked }, files, streams),
+            LinesJob::AnswerCaselessly {
+                asked,
+                shows_progress: _,
+                files,
+            } => run_over_folded(with, *asked, files, streams),
         }
+    }
+}
+
+/// What the program knows.
+const KNOWN: KnownWords<'static> = KnownWords {
+    commands: &[],
+    flags: &["null", "strict", "progress", "caseless"],
+    most_files: 3,
+};
+
+/// Tells on `error` which of the words is refused, where they ask for nothing that there is.
+pub fn tell_refused<E: Write>(
+    alloc: Global,
+    error: &mut Watched<E>,
+    words: &[String],
+    found: &Result<LinesJob, WordsFault>,
+) {
+    let Err(WordsFault::Usage) = found else {
+        return;
+    };
+    if let Ok(refused) = refused_in(alloc, &KNOWN, words)
+        && let Ok(line) = refusal_line(alloc, "npss_lines", refused)
+    {
+        tell(error, line.as_str());
     }
 }
 

@@ -20,6 +20,8 @@ struct Done {
     lines: u64,
     /// The bytes.
     bytes: u64,
+    /// How many bytes there are, where that is known.
+    size: Option<u64>,
     /// Whether a line has begun that did not end.
     has_begun: bool,
     /// When it was told last.
@@ -35,6 +37,15 @@ fn count_of(bytes: &[u8], byte: u8) -> u64 {
         }
     }
     count
+}
+
+/// Which part of so many bytes these are, in percent from 0 to 100.
+fn share_of(bytes: u64, size: u64) -> u64 {
+    if bytes >= size {
+        return 100;
+    }
+    let share = u128::from(bytes) * 100 / u128::from(size);
+    u64::try_from(share).unwrap_or(100)
 }
 
 impl Done {
@@ -63,12 +74,18 @@ impl Done {
         let lines = self.lines.wrapping_add(u64::from(self.has_begun));
         let bytes = self.bytes;
         // what can't be told on standard error is told nowhere
-        let _ = eprint!(rt; "{lines} lines, {bytes} bytes{behind}");
+        let _ = match self.size {
+            Some(size) => {
+                let share = share_of(bytes, size);
+                eprint!(rt; "{lines} lines, {bytes} bytes, {share} %{behind}")
+            }
+            None => eprint!(rt; "{lines} lines, {bytes} bytes{behind}"),
+        };
     }
 }
 
-/// An input that tells on standard error how far it was read: lines and bytes, once a second on one line, and at
-/// the end of the input. Reads answer what the input answers.
+/// An input that tells on standard error how far it was read: lines, bytes, and their share of all bytes where it is known
+/// how many there are, once a second on one line, and at the end of the input. Reads answer what the input answers.
 #[derive(Drop)]
 pub struct Progress<'a, R, I> {
     rt: &'a R,
@@ -77,13 +94,20 @@ pub struct Progress<'a, R, I> {
 }
 
 impl<'a, R: Runtime, I: Read> Progress<'a, R, I> {
-    /// The input; it tells nothing unless the byte that ends lines is given.
-    pub fn new(rt: &'a R, input: I, shown: Option<LineEnd>) -> Progress<'a, R, I> {
+    /// The input; it tells nothing unless the byte that ends lines is given. `size` is how many bytes it has, where that is
+    /// known.
+    pub fn new(
+        rt: &'a R,
+        input: I,
+        shown: Option<LineEnd>,
+        size: Option<u64>,
+    ) -> Progress<'a, R, I> {
         let done = match shown {
             Some(end) => Some(Done {
                 end: end.byte(),
                 lines: 0,
                 bytes: 0,
+                size,
                 has_begun: false,
                 told: Instant::now(rt).ok(),
             }),

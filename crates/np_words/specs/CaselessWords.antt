@@ -1,5 +1,5 @@
 -- What the words of `npss_caseless` ask for, by `clap`'s reading of them.
-use Rattle.std.specs.Prelude.{ℕ, true, false, List, [], ◌∷◌, ◌++◌, option_map, option_and_then, string_bytes, Option, Some, None, codes, if◌then◌else◌}
+use Rattle.std.specs.Prelude.{true, false, List, [], ◌∷◌, ◌++◌, option_map, option_and_then, string_bytes, Option, Some, None, codes, if◌then◌else◌}
 use Rattle.std.specs.Option.{option_zip}
 use Rattle.std.specs.Str.{bytes_eq}
 use Rattle.clap.specs.Words.{Kinds, Row, Text, fault_of, subcommand_of}

@@ -1,13 +1,16 @@
-//! The stabilized string of each line of standard input, or why a line has none: the program.
+//! The key of each line of standard input, or why a line has none: the program.
 #![tactic(auto)]
 
 use np_code_points::watched::Watched;
+use np_habits::{PipedOutput, QuietError};
 use np_jobs::{
     JobFault, Resources, Streams, SystemFiles, refuse, refuse_words, run_found, take_standard,
 };
 use np_lines::LineEnd;
-use np_lines_job::{LinesJob, NpssLines, Progress, lines_usage_text, parse_lines};
+use np_lines_job::{LinesJob, NpssLines, Progress, lines_usage_text, parse_lines, tell_refused};
 use np_words::WordsFault;
+use std::cell::Cell;
+use std::fs;
 use std::io::IsTerminal;
 use std::process::ExitCode;
 
@@ -24,7 +27,24 @@ fn end_where_shown(rt: &HostRuntime, found: &Result<LinesJob, WordsFault>) -> Op
                 files: _,
             },
         ) => shows_progress.then_some(asked.wanted.end),
-        Ok(LinesJob::Help) | Err(WordsFault::Usage | WordsFault::Memory) => None,
+        Ok(
+            LinesJob::AnswerCaselessly {
+                asked,
+                shows_progress,
+                files: _,
+            },
+        ) => shows_progress.then_some(asked.wanted.end),
+        Ok(LinesJob::Help | LinesJob::Version) | Err(WordsFault::Usage | WordsFault::Memory) => {
+            None
+        }
+    }
+}
+
+/// How many bytes standard input has, where it is a file.
+fn size_of_input(rt: &HostRuntime) -> Option<u64> {
+    match fs::metadata(rt, "/dev/stdin") {
+        Ok(known) => known.is_file().then_some(known.len()),
+        Err(_) => None,
     }
 }
 
@@ -50,14 +70,18 @@ fn main(rt: HostRuntime) -> ExitCode {
         output,
         error,
     } = standard.streams;
+    let is_unread = Cell::new(false);
+    let input = Progress::new(&rt, input.into_inner(), shown, size_of_input(&rt));
     let mut streams = Streams {
-        input: Watched::new(Progress::new(&rt, input.into_inner(), shown)),
-        output,
-        error,
+        input: Watched::new(input),
+        output: Watched::new(PipedOutput::new(output.into_inner(), &is_unread)),
+        error: Watched::new(QuietError::new(error.into_inner(), &is_unread)),
     };
     let with = Resources {
         alloc,
         opener: &SystemFiles::new(&rt),
     };
-    ExitCode::from(run_found::<NpssLines, _, _, _, _>(&with, &found, &mut streams))
+    tell_refused(alloc, &mut streams.error, words.as_slice(), &found);
+    let status = run_found::<NpssLines, _, _, _, _>(&with, &found, &mut streams);
+    ExitCode::from(status)
 }

@@ -1,4 +1,4 @@
--- Keys and questions, over the fixtures v1 and v2 as the versions 1 and 2 (tests/databases.py makes their folder).
+-- Keys and questions, over the fixtures v1 and v2 as the versions 1 and 2 (tests/hosts/databases.py makes their folder).
 SET npss.version = '1';
 CREATE EXTENSION npss;
 -- what is promised of each function, and whether anybody may call it

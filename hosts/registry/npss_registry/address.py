@@ -1,7 +1,7 @@
 """The address of a store's log: it is told, and changed where members of a cluster or a password have."""
 
-from npss_registry import records
-from npss_registry.errors import Differs, LogAway, LogBroken, StoreError
+from npss_registry import records, snapshots
+from npss_registry.errors import Differs, LogAway, LogBroken, LogTrimmed, StoreError
 from npss_registry.logs import Log, check_name, located, open_log, shown, whole
 from npss_registry.logs.names import password_in, scheme_of
 from npss_registry.registry import setup_of
@@ -56,9 +56,12 @@ def _check_shard(store: Store, log: Log, shard: int, place: int) -> None:
     wanted = store.shard(shard).sum
     if wanted is None:
         raise StoreError(f"{store.path}: it is one of an earlier version; call `npss-registry status` on it first")
+    begin = snapshots.trimmed_to(log, shard)
+    if begin is not None and begin > place:
+        raise LogTrimmed(place, begin)
     total = records.NOTHING_READ
     for at, body in whole(log, shard):
-        total = records.sum_behind(total, at, records.sum_of(body))
+        total = snapshots.load(log, shard, at).told.past if at == begin else records.sum_behind(total, at, records.sum_of(body))
         if at >= place:
             break
     if total != wanted:

@@ -35,8 +35,9 @@ async def body_of(request: Request, most: int) -> bytes:
     if told.isdecimal() and int(told) > most:
         raise _too_large(most)
     try:
-        return await asyncio.wait_for(_read(request, most), SECONDS)
-    except asyncio.TimeoutError as error:
+        async with asyncio.timeout(SECONDS):
+            return await _read(request, most)
+    except TimeoutError as error:
         raise Fault(408, f"the body didn't come within {SECONDS:g} s", {"Connection": "close"}) from error
 
 

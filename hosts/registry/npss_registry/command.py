@@ -29,6 +29,7 @@ from npss_registry.relog import relog
 from npss_registry.replay import MOST_BYTES, MOST_EVENTS
 from npss_registry.store import Store
 from npss_registry.system_log import failed
+from npss_registry.trim import PATIENCE, trim
 
 # The statuses are those of `npss` where they mean the same.
 DONE, NO, REFUSED, FAULTY, AWAY = 0, 1, 3, 4, 5
@@ -191,6 +192,17 @@ def _relog(words: argparse.Namespace) -> int:
     return NO if done.lost else DONE
 
 
+def _trim(words: argparse.Namespace) -> int:
+    done = trim(words.stores, words.program, words.patience)
+    for finding in done.findings:
+        print(finding)
+    if done.findings:
+        print(f"nothing was deleted: {len(done.findings)} differ")
+        return NO
+    print(f"records deleted: {done.records}; registered names with which the log begins: {done.names}")
+    return DONE
+
+
 def _serve(words: argparse.Namespace) -> int:
     with modules():
         from npss_registry.serving import Serving, serve
@@ -246,6 +258,10 @@ def parser() -> argparse.ArgumentParser:
     one.add_argument("stores", metavar="STORE", nargs="+")
     one.add_argument("--log", type=log_of, required=True, help="the new log, as init names it")
     one.add_argument("--from", dest="source", metavar="STORE", help="the store whose names are taken; else the one that has read farthest")
+    one = command("trim", "deletes the log's records before a snapshot, where check finds nothing and each store has read it")
+    one.add_argument("stores", metavar="STORE", nargs="+")
+    one.add_argument("--program", default="npss", help="the program npss")
+    one.add_argument("--patience", type=float, default=PATIENCE, metavar="SECONDS", help=f"how long a store may take to read the log on; else {PATIENCE:g}")
     one = command("serve", "serves the registry as JSON over HTTP, and as pages", "store")
     one.add_argument("--host", default="127.0.0.1", help="the address; else that of this machine alone")
     one.add_argument("--port", type=int, default=8765, help="the port; 0 is one that is free")
@@ -262,7 +278,7 @@ def parser() -> argparse.ArgumentParser:
 
 # What works on a store by its registry, and what does so in another way.
 RUNS = {"claim": _claim, "forget": _forget, "find": _find, "same": _same, "list": _list, "status": _status, "upgrade": _upgrade}
-ALONE = {"init": _init, "backup": _backup, "log": _log, "relog": _relog, "serve": _serve, "check": _check}
+ALONE = {"init": _init, "backup": _backup, "log": _log, "relog": _relog, "trim": _trim, "serve": _serve, "check": _check}
 
 
 def run(words: argparse.Namespace) -> int:

@@ -24,11 +24,36 @@ _BUSY = _refusal("503 Service Unavailable", "Busy", "the server has as many conn
 _LATE = _refusal("408 Request Timeout", "Request Timeout", f"the request didn't come within {REQUEST:g} s")
 
 
+class _Together:
+    """A transport that sends at once what is written at once, as the head of an answer and its body."""
+
+    def __init__(self, transport: Any, loop: asyncio.AbstractEventLoop):
+        self._transport, self._loop = transport, loop
+        self._written: list[bytes] = []
+
+    def __getattr__(self, name: str) -> Any:
+        return getattr(self._transport, name)
+
+    def write(self, data: bytes) -> None:
+        if not self._written:
+            self._loop.call_soon(self._send)
+        self._written.append(data)
+
+    def _send(self) -> None:
+        if self._written:
+            data, self._written = b"".join(self._written), []
+            self._transport.write(data)
+
+    def close(self) -> None:
+        self._send()
+        self._transport.close()
+
+
 class Connection(H11Protocol):  # type: ignore[misc]
     """A connection that is cut off where it takes too long."""
 
     def connection_made(self, transport: Any) -> None:
-        super().connection_made(transport)
+        super().connection_made(_Together(transport, self.loop))
         self._end: Optional[asyncio.TimerHandle] = None
         self._seconds: Optional[float] = None
         count = len(self.connections)

@@ -80,6 +80,15 @@ class LogEnded(LogBroken):
         self.log = log
 
 
+class LogTrimmed(LogBroken):
+    """The log begins behind the place up to which a store has read it. The node stops; nothing of the registry is lost."""
+
+    def __init__(self, place: int, first: int):
+        super().__init__(place, f"what stood behind it was trimmed, since the log begins at place {first} now; "
+                         "put the store away, and make it anew by `npss-registry init`")
+        self.first = first
+
+
 class NameTooLong(Refused):
     """A name has more bytes than the registry allows.
 

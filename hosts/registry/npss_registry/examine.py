@@ -6,7 +6,7 @@ from npss import Tables, Unassigned
 
 from npss_registry import records
 from npss_registry.errors import LogBroken
-from npss_registry.records import Claim, Forget, Record, Setup
+from npss_registry.records import Claim, Forget, Record, Setup, Snapshot
 
 
 class Examiner:
@@ -24,22 +24,24 @@ class Examiner:
         """The record of bytes at a place. `first` is whether it is the shard's first one."""
         record = records.read(place, body, self._layout)
         if isinstance(record, Claim) and not first:
-            self._check_claim(place, record)
-        elif first or isinstance(record, Setup):
+            self.claim(place, record)
+        elif first or isinstance(record, (Setup, Snapshot)):
             self._check_setup(place, record, first)
         elif isinstance(record, Forget):
             self._check_shard(place, self._key(record.string))
         return record
 
     def _check_setup(self, place: int, record: Record, first: bool) -> None:
-        if not isinstance(record, Setup):
+        setup = record.setup if isinstance(record, Snapshot) else record
+        if not isinstance(setup, Setup):
             raise LogBroken(place, "no setup stands before it")
-        if not first:
+        if not first and not isinstance(record, Snapshot):
             raise LogBroken(place, "a second setup")
-        if record != self.setup:
+        if setup != self.setup:
             raise LogBroken(place, "another setup than the store's")
 
-    def _check_claim(self, place: int, claim: Claim) -> None:
+    def claim(self, place: int, claim: Claim) -> None:
+        """Examines a claim."""
         if claim.message[:1] != self._form_byte:
             raise LogBroken(place, "its message is of another form")
         most = self.setup.most_bytes

@@ -13,7 +13,7 @@ from dataclasses import dataclass
 from npss import Node, Tables
 
 from npss_registry.course import KINDS, Course, Judged, Stretch
-from npss_registry.errors import LogBroken, NoLog, NotOneChain, StoreError
+from npss_registry.errors import LogAway, LogBroken, LogTrimmed, NoLog, NotOneChain, StoreError
 from npss_registry.examine import Examiner
 from npss_registry.ledger import Ledger, Registered
 from npss_registry.logs import Log, open_log, shown
@@ -80,6 +80,15 @@ class Judge:
                 stores = [store for store in stores if store.path != path]
         return stores
 
+    @property
+    def setup(self) -> Setup:
+        """The log's."""
+        return self._world.setup
+
+    def examiner(self, shard: int) -> Examiner:
+        """What examines the records of a shard, under the last version of the stores."""
+        return Examiner(self._world.setup, shard, self._world.tables[-1])
+
     def close(self) -> None:
         """Removes the copies, and lets the log go."""
         self._opened.close()
@@ -109,7 +118,7 @@ class Judge:
         rows = [store.shard(shard) for store in stores]
         places = {place for row in rows for place in (row.place, row.image_place)}
         try:
-            ledger = Ledger(Examiner(self._world.setup, shard, self._world.tables[-1]), self._world.log, places)
+            ledger = Ledger(self.examiner(shard), self._world.log, places)
         except LogBroken as error:
             self._find(f"shard {shard}", [str(error)])
             return
@@ -133,7 +142,15 @@ class _ShardJudge:
     def run(self) -> None:
         try:
             row = self._store.shard(self._shard)
+            if 0 < row.place < self._ledger.begin:
+                raise LogTrimmed(row.place, self._ledger.begin)
+            if row.place and row.base_place < self._ledger.begin:
+                raise StoreError(f"its journal begins at place {row.base_place}, before the snapshot at place {self._ledger.begin}, with which the log begins")
             store, image, now = self._read(row)
+        except LogTrimmed as error:
+            self._check_trimmed(error)
+            self.findings.append(str(error))
+            return
         except (LogBroken, StoreError, sqlite3.Error, ValueError, IndexError) as error:
             self.findings.append(f"{type(error).__name__}: {error}")
             return
@@ -144,6 +161,15 @@ class _ShardJudge:
             self._compare_end(course, row, image, now)
             self._compare_parked(course, store)
             self._replay(course)
+
+    def _check_trimmed(self, error: LogTrimmed) -> None:
+        """LogAway where the copy of the store alone stands before the log's first record, since the log was trimmed behind it."""
+        now = Store(self._store.path, read_only=True)
+        try:
+            if now.places()[self._shard] >= error.first:
+                raise LogAway("the log: it was trimmed while this store was judged; ask again")
+        finally:
+            now.close()
 
     def _read(self, row: ShardRow) -> tuple[Judged, Node, Node]:
         """What the store tells of the shard, its image, and the node that a start makes of it."""
@@ -168,10 +194,11 @@ class _ShardJudge:
                 self.findings.append(f"the running sum at its {what} {place} is not that of the log: it has read another past")
 
     def _compare_rows(self, store: Judged) -> None:
-        """The store's registrations are those of the log, up to the place where it stands."""
+        """The store's registrations are those of the log, up to the place where it stands, but for those whose ends were trimmed."""
         wanted = {one.place: (one.string, one.key, one.owner, one.ended if one.ended and one.ended <= store.place else None)
                   for one in self._ledger.all if one.place <= store.place}
-        found = {row.place: (row.string, row.key, row.owner, row.ended) for row in store.rows.values()}
+        found = {row.place: (row.string, row.key, row.owner, row.ended) for row in store.rows.values()
+                 if row.ended is None or row.ended > self._ledger.begin}
         for place in sorted(wanted.keys() | found.keys()):
             if wanted.get(place) != found.get(place):
                 self.findings.append(f"at place {place} the log has {wanted.get(place)}, the store {found.get(place)}")

@@ -1,4 +1,4 @@
-"""What stands in a log: the setup of a shard, claims, forgets and an end, and how they are spelled.
+"""What stands in a log: the setup of a shard, claims, forgets, snapshots and an end, and how they are spelled.
 
 Records have two layouts. In the second one 16 random bytes stand in each, so that no record comes twice; the setup tells
 the log's name. A log that begins with a setup of the first layout may have records of both.
@@ -8,6 +8,7 @@ import base64
 import hashlib
 import json
 import secrets
+from collections.abc import Iterable
 from dataclasses import dataclass, field, replace
 from typing import NamedTuple, Union
 
@@ -71,7 +72,31 @@ class End(NamedTuple):
     log: str
 
 
-Record = Union[Setup, Claim, Forget, End]
+class Snapshot(NamedTuple):
+    """What stands before it may be trimmed. It tells the setup once more, so that a node can begin here."""
+
+    setup: Setup
+
+
+class SnapshotSum(NamedTuple):
+    """What was registered at a snapshot's place: how many names, their sum, and the running sum behind that record."""
+
+    place: int
+    names: int
+    sum: bytes
+    past: bytes
+
+
+class Name(NamedTuple):
+    """A registered name, as the log alone has it, with the place at which it was registered."""
+
+    place: int
+    string: str
+    key: str
+    owner: str
+
+
+Record = Union[Setup, Claim, Forget, End, Snapshot, SnapshotSum]
 
 
 def form_byte(form: Form) -> bytes:
@@ -111,11 +136,20 @@ def spelled(record: Record) -> bytes:
         told = {"forget": record.string, "place": record.place}
     elif isinstance(record, End):
         told = {"end": record.log}
+    elif isinstance(record, SnapshotSum):
+        told = {"snapshot": record.place, "names": record.names, "sum": record.sum.hex(), "past": record.past.hex()}
+    elif isinstance(record, Snapshot):
+        told = {**_told(record.setup), "setup": 3}
     else:
-        told = {"setup": 2, "form": record.form, "room": record.room, "shards": record.shards, "equivalents": record.equivalents,
-                "name": record.name, "before": record.before, "kept": record.kept, "most_bytes": record.most_bytes}
+        told = {**_told(record), "setup": 2, "kept": record.kept}
     told["nonce"] = base64.b64encode(secrets.token_bytes(_NONCE)).decode()
     return _ENCODER.encode(told).encode()
+
+
+def _told(setup: Setup) -> dict[str, object]:
+    """What a setup tells, and a snapshot once more."""
+    return {"setup": 0, "form": setup.form, "room": setup.room, "shards": setup.shards, "equivalents": setup.equivalents,
+            "name": setup.name, "before": setup.before, "most_bytes": setup.most_bytes}
 
 
 def read(place: int, body: bytes, layout: int = 1) -> Record:
@@ -141,24 +175,30 @@ def _record(told: dict[str, object]) -> Record:
     if "end" in told:
         _check_nonce(told)
         return End(_text(told["end"]))
+    if "snapshot" in told:
+        _check_nonce(told)
+        return SnapshotSum(_number(told["snapshot"]), _number(told["names"]), _sum(told["sum"]), _sum(told["past"]))
     return _setup(told)
 
 
-def _setup(told: dict[str, object]) -> Setup:
+def _setup(told: dict[str, object]) -> Union[Setup, Snapshot]:
     if not isinstance(told["equivalents"], bool):
         raise TypeError(f"{told['equivalents']!r} is neither true nor false")
     first = Setup(form_of(told["form"]), _number(told["room"]), _number(told["shards"]), told["equivalents"])
     if told["setup"] == 1:
         return first
-    if told["setup"] != 2:
+    if told["setup"] not in (2, 3):
         raise ValueError("the setup is of another layout")
     _check_nonce(told)
-    if not _text(told["name"]):
-        raise ValueError("the log's name is empty")
     most = _number(told.get("most_bytes", MOST_BYTES))
     if not 0 < most <= MOST_BYTES:
         raise ValueError(f"a name has 1 to {MOST_BYTES} bytes at most, not {most}")
-    return replace(first, name=_text(told["name"]), before=_text(told["before"]), kept=_number(told["kept"]), most_bytes=most)
+    found = replace(first, name=_text(told["name"]), before=_text(told["before"]), most_bytes=most)
+    if told["setup"] == 3:  # of a log whose setup is of the first layout too, which has no name
+        return Snapshot(found)
+    if not found.name:
+        raise ValueError("the log's name is empty")
+    return replace(found, kept=_number(told["kept"]))
 
 
 def _check_nonce(told: dict[str, object]) -> None:
@@ -183,6 +223,14 @@ def _number(told: object) -> int:
     return told
 
 
+def _sum(told: object) -> bytes:
+    """A sum of a record."""
+    found = bytes.fromhex(_text(told))
+    if len(found) != len(NOTHING_READ):
+        raise ValueError(f"{told!r} is no sum")
+    return found
+
+
 def sum_of(body: bytes) -> bytes:
     """The sum by which a node knows its last record again."""
     return hashlib.sha256(body).digest()
@@ -191,6 +239,15 @@ def sum_of(body: bytes) -> bytes:
 def sum_behind(before: bytes, place: int, last: bytes) -> bytes:
     """The running sum of a shard behind a record of a sum, from that before it: it tells all records up to here, with their places."""
     return hashlib.sha256(before + place.to_bytes(8, "big") + last).digest()
+
+
+def sum_of_names(names: Iterable[Name]) -> tuple[int, bytes]:
+    """How many names there are, and their sum, which tells all of them in their order."""
+    count, made = 0, hashlib.sha256()
+    for count, name in enumerate(names, start=1):
+        parts = [text.encode() for text in name[1:]]
+        made.update(b"".join([name.place.to_bytes(8, "big"), *(len(part).to_bytes(8, "big") + part for part in parts)]))
+    return count, made.digest()
 
 
 def shard_of(key: str, shards: int) -> int:

@@ -14,7 +14,7 @@ from npss_registry import records
 from npss_registry.errors import Differs, LogAway, LogBroken, NameTooLong, NoLog, NotOneChain, StoreError
 from npss_registry.layout import create
 from npss_registry.logs import PIECE, Log, check_name, located, open_log, shown, size_of
-from npss_registry.records import Claim, Forget, Setup
+from npss_registry.records import Claim, Forget, Setup, Snapshot
 from npss_registry.shards import Outcome, Shard
 from npss_registry.store import Registration, Store, Version
 
@@ -74,11 +74,12 @@ def told(setup: Setup) -> str:
 
 
 def setup_of(log: Log, shard: int) -> Optional[Setup]:
-    """The setup in the first record of a shard; None of an empty one."""
+    """The setup that a shard's first record tells; None of an empty one."""
     first = log.read(shard, 0, 1)
     if not first:
         return None
-    setup = records.read(*first[0])
+    found = records.read(*first[0])
+    setup = found.setup if isinstance(found, Snapshot) else found
     if not isinstance(setup, Setup):
         raise LogBroken(first[0][0], "the first record is no setup")
     return setup
@@ -186,11 +187,11 @@ class Registry:
             self.abandon()
 
     @contextmanager
-    def _writing(self) -> Iterator[None]:
+    def _writing(self, again: bool = False) -> Iterator[None]:
         """A transaction of the store. Where it fails, nodes are ahead of the store: it has to be opened anew."""
         self._check_going()
         try:
-            with self.store.transaction():
+            with self.store.transaction(again):
                 yield
         except BaseException:
             self._ended = True
@@ -223,7 +224,7 @@ class Registry:
             left = list(range(self.setup.shards) if shards is None else shards)
             while left:
                 pieces = self._pieces(left)
-                with self._writing():
+                with self._writing(again=True):
                     for number, piece in pieces.items():
                         for place, outcome in self.shards[number].apply(piece).items():
                             outcomes[number, place] = outcome
@@ -237,7 +238,7 @@ class Registry:
         while left and size < BYTES:
             number = left.pop()
             pieces[number] = self.shards[number].read()
-            size += size_of(pieces[number])
+            size += size_of(pieces[number]) + self.shards[number].waiting
         return pieces
 
     def _check_ends(self) -> None:

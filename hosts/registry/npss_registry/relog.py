@@ -18,7 +18,7 @@ from npss_registry import records
 from npss_registry.errors import LogAway, LogBroken, StoreError
 from npss_registry.examine import Examiner
 from npss_registry.ledger import Ledger
-from npss_registry.logs import Log, check_name, located, open_log, record_at, scheme_of, shown, whole
+from npss_registry.logs import Log, check_name, last_bodies, located, open_log, scheme_of, shown, whole
 from npss_registry.logs.names import address
 from npss_registry.logs.sqlite_log import make_file
 from npss_registry.records import Claim, End, Setup
@@ -260,8 +260,7 @@ def _is_begun(name: str) -> bool:
 
 def _last_records(log: Log, shards: int) -> list[Optional[records.Record]]:
     """The last record of each shard; None of an empty one."""
-    bodies = ((place, record_at(log, shard, place)) for shard, place in enumerate(log.lasts(shards)))
-    return [None if body is None else records.read(place, body) for place, body in bodies]
+    return [None if body is None else records.read(place, body) for place, body in last_bodies(log, shards)]
 
 
 def _write_end(log: Log, shards: int, goes_on: str) -> None:

@@ -99,8 +99,9 @@ class Node:
         self._service = Service(self._worker, self._reader, overlook, self._metrics)
         self._service.tokens, self._service.private = self._tokens, asked.private
         app = Guard(application(self._service, self._lifespan), hosts_of(asked.host, asked.hosts), self._metrics, PATHS)
-        self._server = uvicorn.Server(uvicorn.Config(app, http=Connection, ws="none", log_config=None, access_log=False, lifespan="on",
-                                                     server_header=False, backlog=_BACKLOG))
+        # Without a level uvicorn tells each message to itself; nobody reads what a proxy says of the client.
+        self._server = uvicorn.Server(uvicorn.Config(app, http=Connection, ws="none", log_config=None, log_level="critical", access_log=False,
+                                                     lifespan="on", server_header=False, proxy_headers=False, backlog=_BACKLOG))
 
     def run(self) -> int:
         """Serves until it is told to end, or the registry stops; the status."""

@@ -5,11 +5,11 @@ from typing import NamedTuple, Optional
 
 from npss import Accepted, Node, Refused, Tables, Unassigned
 
-from npss_registry import records
-from npss_registry.errors import LogBroken, LogEnded, NotOneChain, StoreError
+from npss_registry import records, snapshots
+from npss_registry.errors import LogBroken, LogEnded, LogTrimmed, NotOneChain, StoreError
 from npss_registry.examine import Examiner
 from npss_registry.logs import PIECE, Log, may_go_on, record_at
-from npss_registry.records import Claim, End, Forget, Record
+from npss_registry.records import Claim, End, Forget, Name, Record, Snapshot, SnapshotSum
 from npss_registry.store import Event, Registration, Store
 
 # An image is saved when so many records were read behind the last one.
@@ -43,6 +43,7 @@ class Shard:
         self._examiner = Examiner(store.setup, number, tables)
         row = store.shard(number)
         self.place = row.place
+        self._base_place = row.base_place
         self._behind = 0
         self._count = store.count(number)
         self._last, self._sum = row.last, row.sum or records.NOTHING_READ
@@ -50,6 +51,8 @@ class Shard:
         self.more = False
         # Behind which record the shard ends, and where the registry goes on.
         self.end: Optional[tuple[int, str]] = None
+        # What was registered at the log's first record, where that is a snapshot and nothing was read so far.
+        self._begins: Optional[snapshots.Kept] = None
         # The running sums that a store of an earlier layout has not yet: that of the place, and that of the image's.
         self._established: Optional[tuple[bytes, bytes]] = None
         try:
@@ -65,6 +68,9 @@ class Shard:
     def _check_last(self, found: Optional[bytes]) -> None:
         """A log that lost its tail, or another log, is never read on."""
         if self.place and (found is None or records.sum_of(found) != self._last):
+            first = snapshots.trimmed_to(self._log, self.number) if found is None else None
+            if first is not None and first > self.place:
+                raise LogTrimmed(self.place, first)
             raise LogBroken(self.place, "the record that this node read last is "
                             + ("missing" if found is None else "another one") + "; see `npss-registry relog`")
 
@@ -129,6 +135,11 @@ class Shard:
         """How many strings are registered."""
         return self._count
 
+    @property
+    def waiting(self) -> int:
+        """How many bytes, about, the names have with which the shard begins once what was read is applied."""
+        return 0 if self._begins is None else self._begins.size
+
     # ---- records
 
     def read(self) -> list[tuple[int, bytes]]:
@@ -136,6 +147,8 @@ class Shard:
         if not self.place:
             found = self._log.read(self.number, 0, PIECE)
             self.more = may_go_on(found, PIECE)
+            if found and isinstance(self._record(*found[0], first=True), Snapshot):
+                self._begins = snapshots.load(self._log, self.number, found[0][0])
             return found
         found = self._log.read(self.number, self.place - 1, PIECE + 1)
         self.more = may_go_on(found, PIECE + 1)
@@ -153,12 +166,43 @@ class Shard:
             outcomes[place] = self._apply_one(place, record)
             self.place, self._last = place, records.sum_of(body)
             self._sum = records.sum_behind(self._sum, place, self._last)
+            self._behind += 1
+            if isinstance(record, Snapshot):
+                self._begin_here()
         if outcomes and self._last is not None:
             self._store.applied(self.number, self.place, self._last, self._sum)
-        self._behind += len(outcomes)
         if self._behind >= SAVE_AFTER:
             self.save()
         return outcomes
+
+    def _begin_here(self) -> None:
+        """Begins the journal behind a snapshot, since what stands before it may be trimmed."""
+        if self._begins is not None:
+            for name in self._begins.names:
+                self._register(name)
+            self._sum, self._begins = self._begins.told.past, None
+        assert self._last is not None
+        self._store.applied(self.number, self.place, self._last, self._sum)
+        self.begin_journal()
+
+    def _register(self, name: Name) -> None:
+        """Registers a name as the log did at its place, where the record isn't any more."""
+        claim = self._claim_made(name.string, name.key, name.owner)
+        self._examiner.claim(name.place, claim)
+        if self.decided(claim):
+            raise LogBroken(self.place, f"what stands beside the log as registered there can't be so at once: {name.string!r} is one too many")
+        self._add(name.place, claim)
+
+    def _claim_made(self, string: str, key: str, owner: str) -> Claim:
+        """The claim of which a record was."""
+        return Claim(records.message(self._store.setup.form, string, key), owner, string, key)
+
+    def _check_sum(self, place: int, told: SnapshotSum) -> None:
+        """What this node registered at its last snapshot is what the log tells of it."""
+        if told.place == self._base_place:
+            rows = self._store.registered_at(self.number, told.place)
+            if records.sum_of_names(Name(*row[:4]) for row in rows) != (told.names, told.sum):
+                raise LogBroken(place, f"what this node registered at the snapshot at place {told.place} isn't what the log tells of it")
 
     def check_end(self) -> None:
         """LogEnded where the shard was read to its end."""
@@ -170,6 +214,8 @@ class Shard:
             return self._claim(place, record)
         if isinstance(record, Forget):
             return self._forget(place, record)
+        if isinstance(record, SnapshotSum):
+            self._check_sum(place, record)
         return Outcome("set up")
 
     def decided(self, claim: Claim) -> Optional[Outcome]:
@@ -186,14 +232,15 @@ class Shard:
         return self._store.holder_of_key(self.number, claim.key)
 
     def _claim(self, place: int, claim: Claim) -> Outcome:
-        decided = self.decided(claim)
-        if decided:
-            return decided
+        return self.decided(claim) or Outcome("registered", self._add(place, claim), new=True)
+
+    def _add(self, place: int, claim: Claim) -> Registration:
+        """Registers a claim."""
         refused = self._take(place, claim)
         new = Registration(place, claim.string, claim.key, claim.owner, refused, refused is not None, None)
         self._store.register(self.number, new)
         self._count += 1
-        return Outcome("registered", new, new=True)
+        return new
 
     def _take(self, place: int, claim: Claim) -> Optional[str]:
         """Hands a claim's message to the node; why it is parked, where the node lacks a code point."""
@@ -233,7 +280,7 @@ class Shard:
         """Begins the journal anew, with what the node keeps."""
         self._write_established()
         self._store.begin_journal(self.number, self.node.image(), self.place, self._version)
-        self._behind = 0
+        self._behind, self._base_place = 0, self.place
 
     def _write_established(self) -> None:
         if self._established is not None:
@@ -241,14 +288,16 @@ class Shard:
             self._established = None
 
     def parked_claims(self) -> list[tuple[int, Claim]]:
-        """The claims of the strings that are parked, from the log, with their places."""
-        return [(parked.place, self._claim_at(parked.place)) for parked in self._store.parked(self.number)]
+        """The claims of the strings that are parked, from the log where they aren't trimmed, with their places."""
+        return [(parked.place, self._claim_at(parked)) for parked in self._store.parked(self.number)]
 
-    def _claim_at(self, place: int) -> Claim:
-        body = record_at(self._log, self.number, place)
-        claim = None if body is None else self._record(place, body)
+    def _claim_at(self, parked: Registration) -> Claim:
+        body = record_at(self._log, self.number, parked.place)
+        if body is None and parked.place < self._base_place and parked.place < (snapshots.trimmed_to(self._log, self.number) or 0):
+            return self._claim_made(parked.string, parked.key, parked.owner)
+        claim = None if body is None else self._record(parked.place, body)
         if not isinstance(claim, Claim):
-            raise LogBroken(place, "the claim of a parked string is missing")
+            raise LogBroken(parked.place, "the claim of a parked string is missing")
         return claim
 
     def upgrade(self, tables: Tables, version: int, parked: Sequence[tuple[int, Claim]]) -> list[Registration]:
@@ -260,6 +309,8 @@ class Shard:
         self._examiner.tables = tables
         self._store.note(self.number, Event("upgrade", self.place, version))
         for place, claim in parked:
+            if claim.string in self.node:
+                raise StoreError(f"{self._store.path}: it marks {claim.string!r} as parked, which its node keeps; see `npss-registry check`")
             if self._take(place, claim) is None:
                 self._store.unpark(self.number, place)
                 self._store.note(self.number, Event("taken", place, version))

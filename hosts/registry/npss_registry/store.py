@@ -45,6 +45,8 @@ class Store:
         # What a relative path of the log counts from.
         self.folder = os.path.dirname(file)
         self._lock = None if read_only else Lock(file)
+        # Whether what is written now can be made again.
+        self._again = False
         try:
             self._base = self._connected(file, read_only)
         except sqlite3.Error as error:
@@ -117,8 +119,14 @@ class Store:
             self._lock = None
 
     @contextmanager
-    def transaction(self) -> Iterator[None]:
-        """What is written within is kept whole, or none of it."""
+    def transaction(self, again: bool = False) -> Iterator[None]:
+        """What is written within is kept whole, or none of it.
+
+        Where it can be made `again` from the log, nobody waits until it stands on the disk: a cut of the power may lose it.
+        """
+        if again is not self._again:
+            self._base.execute(f"PRAGMA synchronous = {'NORMAL' if again else 'FULL'}")
+            self._again = again
         self._base.execute("BEGIN IMMEDIATE")
         try:
             yield
@@ -318,6 +326,10 @@ class Store:
     def registrations(self, number: int) -> Iterator[Registration]:
         """All registrations while they last, in the order of their places."""
         return self._some(f"{_BY_PLACE} AND ended IS NULL ORDER BY place", number)
+
+    def registered_at(self, number: int, place: int) -> Iterator[Registration]:
+        """What was registered behind the record at a place, in the order of their places."""
+        return self._some(f"{_BY_PLACE} AND place <= ?2 AND (ended IS NULL OR ended > ?2) ORDER BY place", number, place)
 
     def past(self, number: int) -> Iterator[Registration]:
         """All registrations that ever were, in the order of their places."""

@@ -219,11 +219,13 @@ class PostgresFaults(PostgresCase):
         logs = [self.opened() for _ in range(2)]
         known = [logs[0].append([(0, b"%d" % count)])[0] for count in range(20)]
         self.servers.kill(self.servers.primary)
-        self.assertRaises(LogAway, logs[0].append, [(0, b"meanwhile")])
+        with self.assertRaises(LogAway):
+            while True:  # a process of the old primary answers until it notices, and what it answered is kept
+                known.append(logs[0].append([(0, b"20")])[0])
         old = self.servers.promote()
         for log in logs:
             self.goes_on(log, b"behind")
-            self.assertEqual([place for place, body in log.read(0, 0, 1000) if body.isdigit()], known)
+            self.assertEqual([place for place, body in log.read(0, 0, 1_000_000) if body.isdigit()], known)
         self.servers.clone(old)
         waited(self.servers.synchronous)
 

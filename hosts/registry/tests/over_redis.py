@@ -55,6 +55,14 @@ class Redis(Case):
         node.abandon()
         self.assertRaises(LogAway, Registry, node.store.path)
 
+    def test_names_of_no_server(self):
+        for name in ("redis://h:port/0", "redis://127.0.0.1:99999999/0", "redis://127.0.0.1/0?nothing=1", "redis://127.0.0.1/zero"):
+            status, out, err = self.run_words("init", str(self.folder / "store"), *NEW, "--log", name)
+            self.assertIn(status, (4, 5), name)
+            self.assertRegex(err, r"\Anpss-registry: [^\n]+\n\Z")
+            self.assertNotIn("a fault of npss-registry", err)
+            self.assertEqual((out, (self.folder / "store").exists()), ("", False))
+
     def test_a_server_that_refuses_is_away(self):
         server = self.server()
         node = self.node("one")

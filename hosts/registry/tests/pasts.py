@@ -154,6 +154,18 @@ class Examined(Case):
         name = "A" * 65_537
         self.stops(self.shard(name), spelled(claim_of(message("nfc", name, name), "y")), "65,536")
 
+    def test_a_record_that_is_text(self):
+        node, other = self.node("one"), self.store("other")
+        place = node.claim("a", "x").holder.place
+        node.close()
+        changed(self.log, ("UPDATE record SET body = CAST(body AS TEXT) WHERE place = ?", place))
+        for asked in (lambda: self.open(node.store.path), lambda: self.open(other).catch_up()):
+            with self.assertRaisesRegex(LogBroken, "it isn't bytes") as caught:
+                asked()
+            self.assertEqual(caught.exception.place, place)
+        self.assertRegex("\n".join(self.judged(node.store.path)), f"at place {place}: .*it isn't bytes")
+        self.assertEqual(self.run_words("list", node.store.path)[0], 4)
+
     def test_a_place_that_is_no_number(self):
         body = json.loads(spelled(Forget("f", 1)))
         self.stops(self.shard("f"), json.dumps({**body, "place": True}).encode(), "no number")

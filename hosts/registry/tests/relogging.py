@@ -43,8 +43,8 @@ def killed_at(number, behind):
     commit = Store.transaction
 
     @contextlib.contextmanager
-    def transaction(self):
-        with write(), commit(self):
+    def transaction(self, again=False):
+        with write(), commit(self, again):
             yield
 
     with mock.patch.object(Store, "transaction", transaction), mock.patch.object(SqliteLog, "append", counted(SqliteLog.append)), \

@@ -24,6 +24,25 @@ class Restarts(Case):
             self.assertEqual([entry.string for entry in again.shards[0].node], ["a", "i"])
         self.assertEqual(self.judged(node.store.path), [])
 
+    def test_what_a_cut_of_the_power_takes_is_read_again(self):
+        node = self.node("one")
+        node.claim("a", "x")
+        path, name = node.store.path, node.store.node
+        kept = {end: Path(path + end).read_bytes() for end in ("", "-wal")}
+        node.claim("A", "x")
+        node.forget("a")
+        node.abandon()
+        for end, content in kept.items():
+            with open(path + end, "r+b" if os.path.exists(path + end) else "wb") as file:
+                file.write(content)
+                file.truncate()
+        again = self.open(path)
+        self.assertEqual([row.string for row in again.store.registrations(0)], ["a"])
+        again.catch_up()
+        self.assertEqual(([row.string for row in again.store.registrations(0)], again.store.node), (["A"], name))
+        again.close()
+        self.assertEqual(self.judged(path), [])
+
     def test_one_process_works_on_a_store(self):
         node = self.node("one")
         self.assertRaises(InUse, Registry, node.store.path)

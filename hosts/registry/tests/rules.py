@@ -2,8 +2,8 @@
 
 from npss import NotUtf8, TooLong, Unassigned
 
-from cases import NEW, OLD, YOUNG, Case, version
-from npss_registry import NotOneChain
+from cases import NEW, OLD, YOUNG, Case, changed, version
+from npss_registry import LogBroken, NotOneChain, StoreError
 from npss_registry.records import Forget, Setup, shard_of, spelled
 
 
@@ -93,6 +93,19 @@ class Versions(Case):
         self.assertEqual(new.claim("\u1dfb", "x").holder.key, "a")
         taken = old.claim("a", "y")
         self.assertEqual((taken.what, taken.holder.string, taken.holder.parked), ("taken", "\u1dfb", True))
+
+    def test_a_name_that_is_marked_as_parked_and_is_not(self):
+        node = self.node("one")
+        node.claim("a", "x")
+        node.close()
+        changed(node.store.path, "UPDATE registration SET parked = 1")
+        again = self.open(node.store.path)
+        with self.assertRaisesRegex(StoreError, f"{node.store.path}: it marks 'a' as parked, which its node keeps; see `npss-registry check`") as caught:
+            again.upgrade(version(NEW))
+        self.assertNotIsInstance(caught.exception, LogBroken)
+        again.abandon()
+        changed(node.store.path, "UPDATE registration SET parked = 0")
+        self.assertEqual(self.open(node.store.path).upgrade(version(NEW)), [])
 
     def test_a_version_that_breaks_the_chain_is_refused(self):
         node = self.node("one", NEW)

@@ -1,6 +1,7 @@
 """The registry over HTTP: requests, those that come late or large or from elsewhere, and pages."""
 
 import http.client
+import re
 import shutil
 import socket
 import subprocess
@@ -263,6 +264,14 @@ class Addresses(ServingCase):
             self.assertEqual(len(answered(connection, "/find", {"name": "A"}, None, {}).read()), 2)
         self.assertLess(time.monotonic() - begun, 1.5)
         connection.close()
+
+    def test_an_answer_is_sent_at_once(self):
+        server = self.serve()
+        made = self.connect(server)
+        for path, body in 50 * [(b"/find", b'{"name": "A"}'), (b"/status", b"")]:
+            made.sendall(b"%s %s HTTP/1.1\r\nHost: localhost\r\nContent-Length: %d\r\n\r\n%s" % (b"POST" if body else b"GET", path, len(body), body))
+            head, behind, told = made.recv(65536).partition(b"\r\n\r\n")
+            self.assertEqual((behind, len(told)), (b"\r\n\r\n", int(re.search(rb"content-length: (\d+)", head)[1])), path)
 
     def test_each_address_of_a_name(self):
         server = Server(self.store("store"), "--port", 0, "--host", "localhost")

@@ -14,12 +14,13 @@ import time
 from pathlib import Path
 from unittest.mock import patch
 
-from cases import NEW, YOUNG
+from cases import NEW, PROGRAM, YOUNG
 from npss_registry import LogAway, Registry
 from npss_registry.health import Health
 from npss_registry.logs import SqliteLog, open_log
 from npss_registry.reader import Reader
 from npss_registry.records import Setup
+from npss_registry.trim import trim
 from npss_registry.watch import Watch
 from npss_registry.worker import Worker
 from serving import TOKEN, RedisServer, ServingCase, answered, claim, with_redis
@@ -225,6 +226,26 @@ class Logs(ServingCase):
             base.execute("DELETE FROM record WHERE place = 2")
         self.assertEqual(server.process.wait(timeout=10), 4)
         server.told("at place 2: the record that this node read last is missing")
+
+
+    def test_a_log_is_trimmed_while_it_is_served(self):
+        path = self.store("store")
+        server = self.serve(path)
+        for name in ("A", "a"):
+            self.assertEqual(self.ask(server, "/claim", claim(name))[0], 201)
+        self.assertEqual(trim([path], PROGRAM, 30).findings, [])
+        self.assertEqual([self.ask(server, "/claim", claim(*asked))[0] for asked in (("A", "x"), ("A", "y"), ("i", "x"))], [200, 409, 201])
+        self.assertEqual(self.ask(server, "/find", {"name": "a"}, None)[1][0]["owner"], "x")
+        # One that is away over a trim, and wasn't named, stops and says so.
+        other = self.node("other")
+        other.claim("aa", "x")
+        server.process.send_signal(signal.SIGSTOP)
+        other.claim("ii", "x")
+        other.close()
+        self.assertEqual(trim([other.store.path], PROGRAM, 30).findings, [])
+        server.process.send_signal(signal.SIGCONT)
+        self.assertEqual(server.process.wait(timeout=15), 4)
+        server.told("critical: the node has stopped: the log at place .*trimmed.*npss-registry init")
 
 
 class Stores(ServingCase):

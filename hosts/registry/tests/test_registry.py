@@ -7,6 +7,7 @@ A NAME is that of a class of tests, or CLASS.TEST; all are run where none is nam
 import sys
 import unittest
 
+from healths import Healths  # noqa: F401
 from judging import Judging  # noqa: F401
 from log_kinds import EtcdKind, PostgresKind, RedisKind, SqliteKind  # noqa: F401
 from old_logs import OldLogs  # noqa: F401
@@ -14,6 +15,7 @@ from over_etcd import EtcdAccounts, EtcdFaults, EtcdNodes, EtcdTls  # noqa: F401
 from over_postgres import PostgresFaults, PostgresNodes, PostgresSettings  # noqa: F401
 from over_redis import Redis, RedisSettings  # noqa: F401
 from passwords import Names, Passwords  # noqa: F401
+from page import Page  # noqa: F401
 from pasts import Earlier, Examined, Pasts  # noqa: F401
 from relogging import Relogging  # noqa: F401
 from renaming import Renaming  # noqa: F401
@@ -21,11 +23,13 @@ from restarts import Restarts  # noqa: F401
 from rules import Rules, Versions  # noqa: F401
 from service_unit import Pauses  # noqa: F401
 from setups import Setups  # noqa: F401
+from snapshot_sums import Snapshots  # noqa: F401
 from test_http import Addresses, Pages, Requests, Strangers  # noqa: F401
 from test_large import Images, Large, Lengths, Memory  # noqa: F401
 from test_logs import Logs, Reading, Stores, Watching  # noqa: F401
 from test_service import Ends, Telling, Tokens  # noqa: F401
 from test_words import Listings, Serve, Statuses, Taken  # noqa: F401
+from trimming import Trimming  # noqa: F401
 
 if __name__ == "__main__":
     result = unittest.main(argv=[sys.argv[0], *sys.argv[3:]], exit=False, verbosity=0).result

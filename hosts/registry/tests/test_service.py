@@ -107,6 +107,11 @@ class Tokens(ServingCase):
         self.assertEqual(self.ask(server, "/claim", claim("A"), "a-token-that-came-later", 5)[0], 200)
         self.assertNotIn(TOKEN, "\n".join(server.lines))
 
+    def test_a_mark_of_the_order_of_bytes_is_no_part_of_a_token(self):
+        self.tokens.write_bytes(b"\xef\xbb\xbf" + TOKEN.encode() + b"\r\n")
+        server = self.serve()
+        self.assertEqual(self.ask(server, "/claim", claim("A"), TOKEN)[0], 201)
+
     def test_a_hangup_without_tokens_changes_nothing(self):
         server = self.serve(tokens=False)
         self.assertTrue(server.port)

@@ -4,6 +4,7 @@ from npss._errors import BadTables as BadTables
 from npss._errors import Full as Full
 from npss._errors import KeyDiffers as KeyDiffers
 from npss._errors import Malformed as Malformed
+from npss._errors import NoFolding as NoFolding
 from npss._errors import NotUtf8 as NotUtf8
 from npss._errors import OlderTables as OlderTables
 from npss._errors import OtherForm as OtherForm
@@ -18,6 +19,6 @@ from npss._values import Entry as Entry
 from npss._values import Form as Form
 from npss._values import Property as Property
 
-__all__ = ["Accepted", "BadEntry", "BadTables", "Break", "Entry", "Form", "Full", "KeyDiffers", "Malformed", "Node", "NotUtf8",
+__all__ = ["Accepted", "BadEntry", "BadTables", "Break", "Entry", "Form", "Full", "KeyDiffers", "Malformed", "NoFolding", "Node", "NotUtf8",
            "OlderTables", "OtherForm", "Property", "Refused", "Stream", "Tables", "TooLong", "Unassigned"]
 __version__: str

@@ -2,7 +2,7 @@
 
 from typing import Optional
 
-__all__ = ["BadEntry", "BadTables", "Full", "KeyDiffers", "Malformed", "NotUtf8", "OlderTables", "OtherForm", "Refused",
+__all__ = ["BadEntry", "BadTables", "Full", "KeyDiffers", "Malformed", "NoFolding", "NotUtf8", "OlderTables", "OtherForm", "Refused",
            "TooLong", "Unassigned"]
 
 
@@ -30,6 +30,13 @@ class Unassigned(Refused):
     def __str__(self) -> str:
         where = f"byte {self.place}" if self.index is None else f"character {self.index} (byte {self.place})"
         return f"{self.code:04X} at {where}{'' if self.number is None else f' of text {self.number}'} is not assigned"
+
+
+class NoFolding(Refused):
+    """The tables were opened without CaseFolding.txt, so nothing is known of case."""
+
+    def __str__(self) -> str:
+        return "the tables were opened without CaseFolding.txt"
 
 
 class TooLong(Refused):
@@ -121,12 +128,13 @@ class BadEntry(Refused):
 
 
 class BadTables(ValueError):
-    """Two files make no version.
+    """The files make no version.
 
-    file: 'data', 'exclusions' or 'tables': which of the two is faulty, or what they make together
-    line: the line of the file, from 1; None of tables and of a file that is too large
+    file: 'data', 'exclusions', 'tables' or 'folding': which file is faulty, or what the first two make together
+    line: the line of the file, from 1; None of tables, of a file that is too large, and where the lines of the folding
+          file are good and it doesn't go with the others
     name: the name of the fault, as docs/FORMATS.md has it
-    code: the code point of a fault of tables, else None
+    code: the code point of a fault of tables, and of a folding file that doesn't go with the others; else None
     """
 
     def __init__(self, file: str, line: Optional[int], name: str, code: Optional[int] = None):
@@ -145,5 +153,5 @@ class BadTables(ValueError):
 
 
 # Users see the package alone.
-for _one in (BadEntry, BadTables, Full, KeyDiffers, Malformed, NotUtf8, OlderTables, OtherForm, Refused, TooLong, Unassigned):
+for _one in (BadEntry, BadTables, Full, KeyDiffers, Malformed, NoFolding, NotUtf8, OlderTables, OtherForm, Refused, TooLong, Unassigned):
     _one.__module__ = "npss"

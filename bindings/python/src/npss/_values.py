@@ -12,7 +12,7 @@ Form = Union[Literal["nfc"], Literal["nfd"], Literal["nfkc"], Literal["nfkd"],
 class Break(typing.NamedTuple):
     """What a newer version breaks of an older one, at a code point."""
 
-    kind: Literal["Lost", "ClassChanged", "MappingChanged", "NowExcluded", "NowIncluded", "NewComposite"]
+    kind: Literal["Lost", "ClassChanged", "MappingChanged", "NowExcluded", "NowIncluded", "NewComposite", "FoldingChanged"]
     code: int
 
 

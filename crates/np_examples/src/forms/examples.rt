@@ -7,8 +7,7 @@ use np_examples_shared::{
     Example, LETTERS, Made, S, V1, V2, amid, holds_over, holds_over_each, want,
 };
 use np_forms::{
-    NpssFault, equivalent, first_unassigned, into_npss, is_form, is_stream_safe, lend_form,
-    lend_npss, npss,
+    NpssFault, equivalent, first_unassigned, into_npss, is_form, is_stream_safe, lend_npss, npss,
 };
 use np_tables::PageTable;
 use np_versions::NormTable;
@@ -269,9 +268,7 @@ fn a_refusal_is_told_in_words(rt: HostRuntime) -> Result<(), Fail> {
 /// A table that knows of a text that it is its own form lets it be lent.
 fn lends<T: NormTable>(alloc: Global, table: &T) -> Result<(), Fail> {
     let lent = lend_npss(alloc, table, Form::Nfc, "\u{1EAD}")?;
-    want(matches!(lent, CowStr::Borrowed(_)), "is lent")?;
-    let lent = lend_form(alloc, table, Form::Nfc, "\u{1EAD}")?;
-    want(matches!(lent, CowStr::Borrowed(_)), "its form is lent")
+    want(matches!(lent, CowStr::Borrowed(_)), "is lent")
 }
 
 /// Fails unless the form of a text of more than 2 MiB has 3 bytes for each 2 of its own.

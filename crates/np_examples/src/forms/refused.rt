@@ -5,8 +5,7 @@ use np_code_points::{Form, Memory};
 use np_examples_shared::devices::Room;
 use np_examples_shared::{Example, Made, V1, holds_over_each, want};
 use np_forms::{
-    NpssFault, RunFault, Stream, equivalent, form, into_npss, is_form, lend_form, lend_npss, npss,
-    run,
+    NpssFault, RunFault, Stream, equivalent, form, into_npss, is_form, lend_npss, npss, run,
 };
 use np_versions::NormTable;
 use std::alloc::Global;
@@ -20,7 +19,6 @@ const TEXT: &str = "\u{61}\u{302}\u{323}";
 enum Call {
     Form,
     Npss,
-    LendForm,
     LendNpss,
     IntoNpss,
     IsForm,
@@ -80,23 +78,6 @@ fn lend_again<'t, T: NormTable>(
         Err(NpssFault::Memory) => lend_npss(alloc, table, Form::Nfc, text),
         made => made,
     }
-}
-
-fn lend_form_again<'t, T: NormTable>(
-    alloc: Global,
-    table: &T,
-    text: &'t str,
-) -> Result<CowStr<'t>, Memory> {
-    match lend_form(alloc, table, Form::Nfc, text) {
-        Err(Memory) => lend_form(alloc, table, Form::Nfc, text),
-        made => made,
-    }
-}
-
-/// The form of a text that changes, lent.
-fn form_lent<T: NormTable>(alloc: Global, table: &T) -> Result<(), Fail> {
-    let same = lend_form_again(alloc, table, TEXT)?.as_str() == KEY;
-    want(same, "the form")
 }
 
 /// A text that changes, lent.
@@ -267,7 +248,6 @@ impl Example for Call {
                 forms(alloc, table, Form::Nfc, "\u{1EAD}")
             }
             Call::Npss => stabilized(alloc, table),
-            Call::LendForm => form_lent(alloc, table),
             Call::LendNpss => lent(alloc, table),
             Call::IntoNpss => {
                 given_up(alloc, table, CHARS)?;
@@ -289,11 +269,6 @@ fn a_refused_form_succeeds_after_all(rt: HostRuntime) -> Result<(), Fail> {
 #[test]
 fn a_refused_npss_succeeds_after_all(rt: HostRuntime) -> Result<(), Fail> {
     holds_over_each(rt.alloc(), V1, &Call::Npss)
-}
-
-#[test]
-fn a_refused_lend_form_succeeds_after_all(rt: HostRuntime) -> Result<(), Fail> {
-    holds_over_each(rt.alloc(), V1, &Call::LendForm)
 }
 
 #[test]

@@ -16,6 +16,7 @@ from npss_registry.logs.protocol import PIECE as PIECE
 from npss_registry.logs.protocol import How as How
 from npss_registry.logs.protocol import Log as Log
 from npss_registry.logs.protocol import bounded as bounded
+from npss_registry.logs.protocol import last_bodies as last_bodies
 from npss_registry.logs.protocol import may_go_on as may_go_on
 from npss_registry.logs.protocol import record_at as record_at
 from npss_registry.logs.protocol import size_of as size_of

@@ -150,6 +150,11 @@ def put(key: bytes, value: bytes) -> dict[str, Any]:
     return {"request_put": {"key": spelled(key), "value": spelled(value)}}
 
 
+def delete(key: bytes, to: bytes) -> dict[str, Any]:
+    """The part of a transaction that deletes keys, up to one that stays."""
+    return {"request_delete_range": {"key": spelled(key), "range_end": spelled(to)}}
+
+
 def get(key: bytes) -> dict[str, Any]:
     """The part of a transaction that reads a value."""
     return {"request_range": {"key": spelled(key)}}

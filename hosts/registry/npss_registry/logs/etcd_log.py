@@ -3,6 +3,7 @@
 `P/batch/SHARD/LAST` has the records of one append, behind a random word, under the place of their last one. `P/tail/SHARD`
 has that word and that place. A transaction names the tails that it knows, and is refused where others have written meanwhile.
 So one that got no answer is tried again: it is done once, since its word tells that the first try did it.
+`P/kept/SHARD/PLACE/NUMBER` has the parts of what belongs to a record.
 """
 
 import json
@@ -11,10 +12,11 @@ import struct
 import time
 import zlib
 from collections.abc import Iterator, Sequence
-from typing import Optional
+from contextlib import suppress
+from typing import Any, Optional
 
 from npss_registry.errors import LogAway, LogBroken
-from npss_registry.logs.etcd_cluster import Cluster, Pair, get, pairs, put, spelled, unchanged
+from npss_registry.logs.etcd_cluster import Cluster, Pair, delete, get, pairs, put, spelled, unchanged
 from npss_registry.logs.protocol import MOST_READ, PATIENCE, How, bounded, size_of
 
 # etcd takes 128 operations a transaction, of which a shard wants two, and 1.5 MiB a request, which a batch reaches
@@ -47,6 +49,11 @@ def _unpacked(last: int, value: bytes) -> list[_Record]:
     except (zlib.error, struct.error) as error:
         raise LogBroken(last, f"what stands there is no batch: {error}") from error
     return list(zip(range(last - len(bodies) + 1, last + 1), bodies))
+
+
+def _place_of(key: bytes) -> int:
+    """The place of a batch's last record, by its key."""
+    return int(key[-16:], 16)
 
 
 def _last_of(tail: Optional[bytes]) -> int:
@@ -175,18 +182,17 @@ class EtcdLog:
             if not told:
                 raise LogBroken(at + 1, _MISSING)
             for key, value in told:
-                found += self._batch(key, value, at, not found)
+                found += self._batch(shard, (key, value), at, not found)
                 at = found[-1][0]
                 if at == last and value[:_WORD] == tail[:_WORD]:
                     self._seen[shard] = tail, _last_records(found)
             limit = min(2 * limit, _MOST_BATCHES) if sum(len(value) for _, value in told) < _BYTES_READ else limit
         return found
 
-    @staticmethod
-    def _batch(key: bytes, value: bytes, at: int, is_first: bool) -> list[_Record]:
-        """The records of a batch, which follow a place; of the first one some may stand before it."""
-        batch = _unpacked(int(key[-16:], 16), value)
-        if not batch or batch[0][0] > at + 1 or (batch[0][0] != at + 1 and not is_first):
+    def _batch(self, shard: int, pair: Pair, at: int, is_first: bool) -> list[_Record]:
+        """The records of a batch, which follow a place; of the first one some may stand before it, or none before the log's first one."""
+        batch = _unpacked(_place_of(pair[0]), pair[1])
+        if not batch or (batch[0][0] != at + 1 and not is_first) or (batch[0][0] > at + 1 and self._range(self._key(shard, 0), pair[0])):
             raise LogBroken(at + 1, _MISSING)
         return batch
 
@@ -206,6 +212,40 @@ class EtcdLog:
             if lasts != list(known) or time.monotonic() >= end:
                 return lasts
             self._hearing.heard({**self._tails, "start_revision": revision + 1}, end)
+
+    # ---- what belongs to records, and what is deleted
+
+    def _kept_key(self, shard: int, place: int, number: int = 0) -> bytes:
+        return b"%s/kept/%04x/%016x/%08x" % (self._prefix, shard, place, number)
+
+    def keep(self, shard: int, place: int, number: int, part: bytes) -> None:
+        self._cluster.ask("/v3/kv/txn", {"success": [put(self._kept_key(shard, place, number), part)]})
+
+    def kept(self, shard: int, place: int, number: int) -> Optional[bytes]:
+        found = self._range(self._kept_key(shard, place, number))
+        return found[0][1] if found else None
+
+    def trim(self, shard: int, place: int) -> None:
+        by = time.monotonic() + self._patience
+        while (answer := self._try_trim(shard, place, by)).get("succeeded") is None:
+            if time.monotonic() > by:
+                raise LogAway("the log: other nodes were always sooner")
+        self._seen.pop(shard, None)
+        # Without this the cluster keeps what was deleted until it compacts by itself.
+        with suppress(LogAway):
+            self._cluster.ask("/v3/kv/compaction", {"revision": answer["header"]["revision"]})
+
+    def _try_trim(self, shard: int, place: int, by: float) -> dict[str, Any]:
+        """Deletes what stands before a place, where the batch that has it is this still. What was written together is cut in two."""
+        found = self._range(self._key(shard, place), self._key(shard, _LAST_PLACE))
+        if not found:
+            raise LogBroken(place, _MISSING)
+        key, value = found[0]
+        batch = _unpacked(_place_of(key), value)
+        left = [body for at, body in batch if at >= place]
+        cut = [put(key, _packed(value[:_WORD], left))] if len(left) < len(batch) else []
+        return self._cluster.ask("/v3/kv/txn", {"compare": [unchanged(key, value)], "success": [
+            delete(self._key(shard, 0), key), delete(self._kept_key(shard, 0), self._kept_key(shard, place)), *cut]}, by)
 
     def close(self) -> None:
         self._cluster.close()

@@ -18,12 +18,19 @@ from npss_registry.logs.names import shown
 from npss_registry.logs.postgres_cluster import SETTINGS, TRUSTED, Cluster, Connection
 from npss_registry.logs.protocol import MOST_READ, PATIENCE, How
 
+# So many records are deleted by one statement, so that each ends within the patience.
+DELETED = 10_000
 _MAKE = ("CREATE TABLE IF NOT EXISTS {table} (place bigint PRIMARY KEY, shard integer NOT NULL, body bytea NOT NULL)",
          "CREATE UNIQUE INDEX IF NOT EXISTS {index} ON {table} (shard, place)")
+_MAKE_KEPT = """CREATE TABLE IF NOT EXISTS {kept} (shard integer NOT NULL, place bigint NOT NULL, number integer NOT NULL, part bytea NOT NULL,
+    PRIMARY KEY (shard, place, number))"""
+_KEEP = """INSERT INTO {kept} VALUES (%s, %s, %s, %s) ON CONFLICT (shard, place, number) DO UPDATE SET part = excluded.part"""
 _READ = """SELECT place, body FROM (SELECT place, body, row_number() OVER records AS number, sum(octet_length(body)) OVER records - octet_length(body) AS before
     FROM (SELECT place, body FROM {table} WHERE shard = %s AND place > %s ORDER BY place LIMIT %s) AS piece
     WINDOW records AS (ORDER BY place ROWS UNBOUNDED PRECEDING)) AS sized WHERE before < %s OR number <= 2 ORDER BY place"""
 _LASTS = """SELECT coalesce((SELECT max(place) FROM {table} WHERE shard = number), 0) FROM generate_series(0, %s - 1) AS number ORDER BY number"""
+_DELETE = """WITH piece AS (SELECT place FROM {table} WHERE shard = %s AND place > %s AND place < %s ORDER BY place LIMIT %s),
+    gone AS (DELETE FROM {table} WHERE place IN (SELECT place FROM piece)) SELECT max(place) FROM piece"""
 _NOTIFY = "BEGIN; SET LOCAL synchronous_commit = off; NOTIFY {table}; COMMIT"
 _INSERT = """INSERT INTO {table} SELECT %s + number, shard, body
     FROM unnest(%b::integer[], %b::bytea[]) WITH ORDINALITY AS one (shard, body, number)"""
@@ -58,7 +65,8 @@ class PostgresLog:
         self._opened = True
 
     def _sql(self, text: str) -> sql.Composed:
-        return sql.SQL(text).format(table=sql.Identifier(self._name), index=sql.Identifier(f"{self._name}_of_shard"))
+        return sql.SQL(text).format(table=sql.Identifier(self._name), index=sql.Identifier(f"{self._name}_of_shard"),
+                                    kept=sql.Identifier(f"{self._name}_kept"))
 
     @contextmanager
     def _asked(self) -> Iterator[Connection]:
@@ -128,6 +136,35 @@ class PostgresLog:
                 if lasts != list(known) or time.monotonic() >= end:
                     return lasts
                 _hear(base, end)
+
+    def keep(self, shard: int, place: int, number: int, part: bytes) -> None:
+        with self._asked() as base, self._cluster.writing(base):
+            if not self._has_kept(base):
+                base.execute(self._sql(_MAKE_KEPT))
+            base.execute(self._sql(_KEEP), [shard, place, number, part])
+
+    def kept(self, shard: int, place: int, number: int) -> Optional[bytes]:
+        with self._asked() as base:
+            if not self._has_kept(base):
+                return None
+            found = base.execute(self._sql("SELECT part FROM {kept} WHERE shard = %s AND place = %s AND number = %s"), [shard, place, number],
+                                 binary=True).fetchone()
+            return None if found is None else bytes(found[0])
+
+    def _has_kept(self, base: Connection) -> bool:
+        """Whether there is the table of what belongs to records, which a log of earlier versions lacks."""
+        return base.execute("SELECT to_regclass(quote_ident(%s))", [f"{self._name}_kept"]).fetchone() != (None,)
+
+    def trim(self, shard: int, place: int) -> None:
+        # Who appends waits for nothing here: what is deleted stands before all that is read or written meanwhile.
+        with self._asked() as base, base.transaction():
+            at: Optional[int] = 0
+            while at is not None:
+                base.by = time.monotonic() + self._patience
+                found = base.execute(self._sql(_DELETE), [shard, at, place, DELETED]).fetchone()
+                at = found and found[0]
+            if self._has_kept(base):
+                base.execute(self._sql("DELETE FROM {kept} WHERE shard = %s AND place < %s"), [shard, place])
 
     def close(self) -> None:
         if self._base is not None:

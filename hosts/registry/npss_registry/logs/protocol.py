@@ -3,6 +3,8 @@
 from collections.abc import Iterable, Iterator, Sequence
 from typing import Literal, Optional, Protocol
 
+from npss_registry.errors import LogAway
+
 # A log is made where there is none, or has to be there; who reads alone needn't be allowed to write.
 How = Literal["make", "use", "read"]
 # A log is read in pieces of so many records.
@@ -31,6 +33,15 @@ class Log(Protocol):
     def news(self, known: Sequence[int], patience: float) -> list[int]:
         """`lasts` as soon as one of them isn't the known one, or once so many seconds are over."""
 
+    def keep(self, shard: int, place: int, number: int, part: bytes) -> None:
+        """Writes a part, by its number from 0, of what belongs to the record at a place and stands beside the log."""
+
+    def kept(self, shard: int, place: int, number: int) -> Optional[bytes]:
+        """A part of what belongs to a record; None where there is none."""
+
+    def trim(self, shard: int, place: int) -> None:
+        """Deletes the records of a shard before a place, where a record has to stand, and what belongs to them; all of it, or nothing."""
+
     def close(self) -> None:
         """Lets the log go."""
 
@@ -41,11 +52,20 @@ def record_at(log: Log, shard: int, place: int) -> Optional[bytes]:
     return found[0][1] if found and found[0][0] == place else None
 
 
+def last_bodies(log: Log, shards: int) -> list[tuple[int, Optional[bytes]]]:
+    """The last record of each shard, with its place; None of an empty one."""
+    return [(place, record_at(log, shard, place)) for shard, place in enumerate(log.lasts(shards))]
+
+
 def whole(log: Log, shard: int) -> Iterator[tuple[int, bytes]]:
-    """All records of a shard."""
+    """All records of a shard. LogAway where the log is trimmed meanwhile, or loses its tail: who asks again finds which."""
     at = 0
-    while piece := log.read(shard, at, PIECE):
-        yield from piece
+    while piece := log.read(shard, max(at - 1, 0), PIECE + 1):
+        if at and piece[0][0] != at:
+            raise LogAway(f"the log: what stood at place {at} is gone since it was read, as where it is trimmed meanwhile; ask again")
+        yield from piece[1:] if at else piece
+        if at == piece[-1][0]:
+            break
         at = piece[-1][0]
 
 

@@ -97,11 +97,14 @@ class RedisLog:
             pipe = self._server.pipeline(transaction=True)
             for shard, body in records:
                 pipe.xadd(self._stream(shard), {"record": body}, id="0-*")
-            # The server may have been set otherwise since the connection was begun.
-            pipe.execute_command("CONFIG GET", *SETTINGS)
-            *written, settings = pipe.execute()
-            self._check_settings(settings)
-            return [self._place(identifier) for identifier in written]
+            return [self._place(identifier) for identifier in self._written(pipe)]
+
+    def _written(self, pipe: Any) -> list[Any]:
+        """Writes what a pipe has; the server's answers. It may have been set otherwise since the connection was begun."""
+        pipe.execute_command("CONFIG GET", *SETTINGS)
+        written: list[Any] = pipe.execute()
+        self._check_settings(written.pop())
+        return written
 
     def begin(self, records: Sequence[tuple[int, bytes]]) -> None:
         with self._asked():
@@ -137,6 +140,30 @@ class RedisLog:
         with self._asked():
             self._server.xread({self._stream(shard): f"0-{place}" for shard, place in enumerate(known)}, count=1, block=max(1, int(wait * 1000)))
         return self.lasts(len(known))
+
+    def _beside(self, shard: int) -> str:
+        """The hash of what belongs to a shard's records: its fields are a place and a part's number."""
+        return f"{self._prefix}/kept:{shard}"
+
+    def keep(self, shard: int, place: int, number: int, part: bytes) -> None:
+        with self._asked():
+            pipe = self._server.pipeline(transaction=True)
+            pipe.hset(self._beside(shard), f"{place}:{number}", part)
+            self._written(pipe)
+
+    def kept(self, shard: int, place: int, number: int) -> Optional[bytes]:
+        with self._asked():
+            found: Optional[bytes] = self._server.hget(self._beside(shard), f"{place}:{number}")
+            return found
+
+    def trim(self, shard: int, place: int) -> None:
+        with self._asked():
+            old = [field for field in self._server.hkeys(self._beside(shard)) if int(field.partition(b":")[0]) < place]
+            pipe = self._server.pipeline(transaction=True)
+            pipe.xtrim(self._stream(shard), minid=f"0-{place}", approximate=False)
+            if old:
+                pipe.hdel(self._beside(shard), *old)
+            self._written(pipe)
 
     def close(self) -> None:
         self._server.close()

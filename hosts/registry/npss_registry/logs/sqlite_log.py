@@ -5,12 +5,16 @@ import sqlite3
 import time
 from collections.abc import Iterator, Sequence
 from contextlib import contextmanager, suppress
+from typing import Optional
 
 from npss_registry.errors import LogAway, LogBroken, LogReadOnly, NoLog, StoreError
 from npss_registry.logs.protocol import How, bounded
 
 # A file is looked at for news after so many seconds.
 LOOK = 0.05
+# What belongs to records and stands beside them. A log of earlier versions has no such table until something does.
+_KEPT = ("CREATE TABLE IF NOT EXISTS kept (shard INTEGER NOT NULL, place INTEGER NOT NULL, number INTEGER NOT NULL, part BLOB NOT NULL, "
+         "PRIMARY KEY (shard, place, number)) WITHOUT ROWID")
 
 
 @contextmanager
@@ -103,6 +107,24 @@ class SqliteLog:
             if left <= 0:
                 return list(known)
             time.sleep(min(LOOK, left))
+
+    def keep(self, shard: int, place: int, number: int, part: bytes) -> None:
+        with self._writing():
+            self._base.execute(_KEPT)
+            self._base.execute("INSERT OR REPLACE INTO kept VALUES (?, ?, ?, ?)", (shard, place, number, part))
+
+    def kept(self, shard: int, place: int, number: int) -> Optional[bytes]:
+        with _reached(self._path):
+            if not self._base.execute("SELECT EXISTS (SELECT 1 FROM sqlite_master WHERE name = 'kept')").fetchone()[0]:
+                return None
+            found = self._base.execute("SELECT part FROM kept WHERE shard = ? AND place = ? AND number = ?", (shard, place, number)).fetchone()
+            return None if found is None else _body(place, found[0])
+
+    def trim(self, shard: int, place: int) -> None:
+        with self._writing():
+            self._base.execute(_KEPT)
+            for table in ("record", "kept"):
+                self._base.execute(f"DELETE FROM {table} WHERE shard = ? AND place < ?", (shard, place))
 
     def close(self) -> None:
         self._base.close()

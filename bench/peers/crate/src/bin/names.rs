@@ -1,9 +1,9 @@
-// names FILE PASSES: what names.c does, by the crate unicode-normalization: what isn't NFC by its quick check is made.
+// names FILE PASSES FORM: what names.c does, by the crate unicode-normalization: what isn't of the form by its quick check is made.
 use std::time::Instant;
 use unicode_normalization::char::is_public_assigned;
-use unicode_normalization::{is_nfc_quick, IsNormalized, UnicodeNormalization, UNICODE_VERSION};
+use unicode_normalization::{is_nfc_quick, is_nfd_quick, IsNormalized, UnicodeNormalization, UNICODE_VERSION};
 
-fn form(text: &str, room: &mut String) -> bool {
+fn nfc(text: &str, room: &mut String) -> bool {
     room.clear();
     match is_nfc_quick(text.chars()) {
         IsNormalized::Yes => room.push_str(text),
@@ -12,8 +12,21 @@ fn form(text: &str, room: &mut String) -> bool {
     true
 }
 
-fn key(text: &str, room: &mut String) -> bool {
-    text.chars().all(is_public_assigned) && form(text, room)
+fn nfd(text: &str, room: &mut String) -> bool {
+    room.clear();
+    match is_nfd_quick(text.chars()) {
+        IsNormalized::Yes => room.push_str(text),
+        _ => room.extend(text.nfd()),
+    }
+    true
+}
+
+fn nfc_key(text: &str, room: &mut String) -> bool {
+    text.chars().all(is_public_assigned) && nfc(text, room)
+}
+
+fn nfd_key(text: &str, room: &mut String) -> bool {
+    text.chars().all(is_public_assigned) && nfd(text, room)
 }
 
 fn main() {
@@ -21,7 +34,8 @@ fn main() {
     let text = std::fs::read_to_string(&words[1]).unwrap();
     let names: Vec<&str> = text.lines().collect();
     println!("version {}.{}.{}", UNICODE_VERSION.0, UNICODE_VERSION.1, UNICODE_VERSION.2);
-    let ways: [(&str, fn(&str, &mut String) -> bool); 2] = [("form", form), ("key", key)];
+    let ways: [(&str, fn(&str, &mut String) -> bool); 2] =
+        if words[3] == "nfd" { [("form", nfd), ("key", nfd_key)] } else { [("form", nfc), ("key", nfc_key)] };
     for (way, make) in ways {
         let (mut least, mut sum) = (f64::MAX, 0xcbf29ce484222325_u64);
         for pass in 0..=words[2].parse().unwrap() {

@@ -1,20 +1,36 @@
-use Rattle.std.proofs.Common.{sym, ◌∙◌, arith}
-use Rattle.np_foldings.proofs.FindLemmas.{found_here, not_here, none_left, same_list}
+use Rattle.std.proofs.Common.{List, length, rules, sym, ap, ◌∙◌, arith}
+use Rattle.np_foldings.specs.Foldings.{Folding, folding_at}
+use Rattle.np_foldings.proofs.FindLemmas.{begun_in_order, found, none_begun, not_found, rising}
 use Rattle.np_foldings.proofs.foldings.Foldings.find.Goals as goal
 
-pub loop-folding-init : goal.loop-folding-init
-loop-folding-init c = same_list c.deref-folding-items.result.now c.self.inside.foldings.items c.args.self.now c.args.code c.deref-folding-items.ensures.value c.self.view_is
+pub returns-then-begun-eq0 : goal.returns-then-begun-eq0
+returns-then-begun-eq0 c =
+    let items = c.self.inside.foldings.items in
+    let n = c.partition_point-begun.result in
+    ap (λ (fs : List Folding). folding_at fs c.args.code) (sym c.self.view_is)
+    ∙ none_begun items n c.args.code
+    (begun_in_order c.args.code n c.deref.result.now items c.deref.ensures.value (rising items c.self.invariant.rise) c.partition_point-begun.ensures.partitioned (λ a r q k. search rules))
+    c.if-begun-eq0.true
 
-pub returns-then-folding-code : goal.returns-then-folding-code
-returns-then-folding-code c =
-    c.loop-folding.invariant
-    ∙ (found_here c.deref-folding-items.result.now c.loop-folding.folding-index c.args.code c.folding-item.result c.loop-folding-test.true c.folding-item.is c.if-folding-code.true
-    ∙ sym c.as_slice.ensures)
+pub returns-then-last-code : goal.returns-then-last-code
+returns-then-last-code c =
+    let items = c.self.inside.foldings.items in
+    let n = c.partition_point-begun.result in
+    let bound = c.partition_point-begun.ensures.bound in
+    let some = c.if-begun-eq0.false in
+    let same = ap (λ (xs : List _). length xs) c.deref.ensures.value in
+    ap (λ (fs : List Folding). folding_at fs c.args.code) (sym c.self.view_is)
+    ∙ found items n c.args.code c.index-last.result.now (rising items c.self.invariant.rise) (omega arith) (omega arith) c.index-last.ensures c.if-last-code.true
+    ∙ sym c.as_slice.ensures
 
-pub loop-folding-preserved : goal.loop-folding-preserved
-loop-folding-preserved c =
-    c.loop-folding.invariant
-    ∙ not_here c.deref-folding-items.result.now c.loop-folding.folding-index c.args.code c.folding-item.result c.loop-folding-test.true c.folding-item.is c.if-folding-code.false
-
-pub returns : goal.returns
-returns c = c.loop-folding.invariant ∙ none_left c.deref-folding-items.result.now c.loop-folding.folding-index c.args.code (omega (arith, c.loop-folding-test.false))
+pub returns-else-last-code : goal.returns-else-last-code
+returns-else-last-code c =
+    let items = c.self.inside.foldings.items in
+    let n = c.partition_point-begun.result in
+    let bound = c.partition_point-begun.ensures.bound in
+    let some = c.if-begun-eq0.false in
+    let same = ap (λ (xs : List _). length xs) c.deref.ensures.value in
+    ap (λ (fs : List Folding). folding_at fs c.args.code) (sym c.self.view_is)
+    ∙ not_found items n c.args.code c.index-last.result.now (rising items c.self.invariant.rise)
+    (begun_in_order c.args.code n c.deref.result.now items c.deref.ensures.value (rising items c.self.invariant.rise) c.partition_point-begun.ensures.partitioned (λ a r q k. search rules))
+    (omega arith) (omega arith) c.index-last.ensures c.if-last-code.false

@@ -1,11 +1,12 @@
 use Rattle.std.proofs.Common.{length}
 use denote.Text.{Utf8}
 use denote.Shadow.{shadow}
+use Rattle.np_lines.specs.Answers.{IsAnswerBy}
 use Rattle.np_lines.specs.inside.Steps.{HasTaken}
 use Rattle.np_lines.proofs.pending.Pending.take_lines.Given as goal
 
 abbrev pub invariant-lines : goal.invariant-lines
-invariant-lines g l = shadow (Utf8 l.rest) × HasTaken (g.T.NormTable.model l.table) l.wanted l.fn.self l.self l.text l.rest
+invariant-lines g l = shadow (Utf8 l.rest) × HasTaken (IsAnswerBy (g.K.LineKeys.is_key l.keys) (g.K.LineKeys.version l.keys) l.end) l.end l.fn.self l.self l.text l.rest
 
 abbrev pub decreases-lines : goal.decreases-lines
 decreases-lines g l = length l.rest

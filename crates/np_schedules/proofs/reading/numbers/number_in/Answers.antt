@@ -1,4 +1,4 @@
-use Rattle.std.proofs.Common.{false, sym, ◌∙◌, subst, List, ℕ}
+use Rattle.std.proofs.Common.{sym, ◌∙◌, subst, List, ℕ}
 use Rattle.std.specs.Str.Parse.{ParsesUnsigned}
 use Rattle.np_schedules.proofs.NumberLemmas.{number_empty, number_long, number_plus, number_no_text, number_parsed}
 use Rattle.np_schedules.proofs.reading.numbers.number_in.Goals as goal

@@ -1,0 +1,5 @@
+use Rattle.std.proofs.Common.{◌≡◌, get_or, map, take}
+use Rattle.np_caseless.proofs.ascii.fold_to_themselves.Given as goal
+
+abbrev pub invariant-bytes : goal.invariant-bytes
+invariant-bytes l = map (λ b. get_or l.bytes b 0) (take l.byte-index l.text) ≡ take l.byte-index l.text

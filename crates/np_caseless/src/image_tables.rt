@@ -1,0 +1,187 @@
+//! The images of all code points of a version with its foldings.
+ghost use Rattle.std.specs.Prelude.{◌≡◌, ◌≢◌, ℕ, Bool, ◌∷◌, [], get_or, length, option_map, slice_get, IfOk, IfSome, OnOk};
+ghost use Rattle.np_caseless.specs.Folded.{folded_by};
+ghost use Rattle.np_caseless.specs.inside.FirstFaults.{Below, IsFoldingAt, IsOfArithmetic, IsRowAt};
+ghost use Rattle.np_caseless.specs.inside.Images.{AreImages};
+ghost use Rattle.np_caseless.specs.inside.ImageTables.{AreAllImages, AreKnown, IsCleared, IsKnown, IsLessMarked, IsTold};
+
+use crate::own_images::{image_of, is_own};
+use crate::quiet_hangul::is_hangul_quiet;
+use np_code_points::Memory;
+use np_code_points::hangul::{S_BASE, S_COUNT, is_syllable};
+use np_foldings::Foldings;
+use np_versions::NormTable;
+use std::alloc::Global;
+
+/// How many code points there are.
+const CODE_POINTS: usize = 0x11_0000;
+
+/// The image of a code point that isn't its own.
+#[derive(Drop)]
+pub(crate) struct Image {
+    pub(crate) code: char,
+    pub(crate) text: String,
+}
+
+/// The images of code points, by one kind of normalization.
+#[derive(Drop)]
+pub(crate) struct Images {
+    /// By code point, 1 where it is known to be its own image.
+    pub(crate) own: Vec<u8>,
+    /// Those of the code points that fold, in their order.
+    pub(crate) of_foldings: Vec<Image>,
+    /// Those of others that have a mapping, in their order.
+    pub(crate) of_rows: Vec<Image>,
+}
+
+/// Marks a code point as one that isn't known to be its own image.
+fn clear(own: &mut Vec<u8>, code: char)
+    ensures { IsCleared own.old.items own.new.items code }
+{
+    if let Some(mark) = own.get_mut(u32::from(code) as usize) {
+        *mark = 0;
+    }
+}
+
+/// The image of a code point, where one is known.
+fn known_image<T: NormTable>(
+    alloc: Global,
+    table: &T,
+    foldings: &Foldings,
+    compat: bool,
+    code: char,
+) -> Result<Option<Image>, Memory>
+    ensures { IfOk result (λ image. IfSome image (IsKnown (folded_by (T.model table.now) foldings.now) compat)) }
+{
+    match image_of(alloc, table, foldings, compat, code)? {
+        Some(text) => Ok(Some(Image { code, text })),
+        None => Ok(None),
+    }
+}
+
+/// The code point whose folding is listed at a place, from 0.
+fn code_at(foldings: &Foldings, at: usize) -> Option<char>
+    ensures { result ≡ option_map (λ f. f.code) (slice_get foldings.now at) }
+{
+    match foldings.get(at) {
+        Some(folding) => Some(folding.code),
+        None => None,
+    }
+}
+
+/// The images of the code points that are listed to fold, none of which is marked then.
+fn of_foldings<T: NormTable>(
+    alloc: Global,
+    table: &T,
+    foldings: &Foldings,
+    compat: bool,
+    own: &mut Vec<u8>,
+) -> Result<Vec<Image>, Memory>
+    ensures known { IfOk result (λ list. AreKnown (folded_by (T.model table.now) foldings.now) compat list.items) }
+    ensures cleared { OnOk result ((c : ℕ) → Below (IsFoldingAt foldings.now) (length foldings.now) c → get_or own.new.items c 0 ≢ 1) }
+{
+    let mut list = Vec::new(alloc);
+    for at in 0..foldings.len() {
+        if let Some(code) = code_at(foldings, at) {
+            clear(own, code);
+            if let Some(image) = known_image(alloc, table, foldings, compat, code)? {
+                list.push(image)?;
+            }
+        }
+    }
+    Ok(list)
+}
+
+/// Clears the Hangul syllables, where their arithmetic is on and it isn't known that none folds.
+fn clear_syllables<T: NormTable>(table: &T, foldings: &Foldings, own: &mut Vec<u8>)
+    ensures less { IsLessMarked own.old.items own.new.items }
+    ensures told { (compat : Bool) (c : ℕ) → IsOfArithmetic (folded_by (T.model table.now) foldings.now) c → get_or own.new.items c 0 ≡ 1
+        → AreImages (folded_by (T.model table.now) foldings.now) compat (c ∷ []) (c ∷ []) }
+{
+    table.meets_conditions();
+    if !table.hangul() || is_hangul_quiet(foldings) {
+        return;
+    }
+    for at in 0..S_COUNT {
+        if let Some(code) = char::from_u32(S_BASE + at) {
+            clear(own, code);
+        }
+    }
+}
+
+/// Looks at the first code point of a row. Where it isn't known to be its own image it is cleared and answered.
+fn look_at<T: NormTable>(
+    table: &T,
+    foldings: &Foldings,
+    compat: bool,
+    first: u32,
+    own: &mut Vec<u8>,
+) -> Option<char>
+    ensures less { IsLessMarked own.old.items own.new.items }
+    ensures told { IsTold (folded_by (T.model table.now) foldings.now) compat own.new.items first }
+{
+    table.meets_conditions();
+    let code = char::from_u32(first)?;
+    if table.hangul() && is_syllable(first) {
+        return None;
+    }
+    if table.full(code, true).is_empty() || is_own(table, foldings, compat, code) {
+        return None;
+    }
+    clear(own, code);
+    Some(code)
+}
+
+/// The images of the first code points of the rows, among which are all that have a mapping in the file.
+fn of_rows<T: NormTable>(
+    alloc: Global,
+    table: &T,
+    foldings: &Foldings,
+    compat: bool,
+    own: &mut Vec<u8>,
+) -> Result<Vec<Image>, Memory>
+    ensures known { IfOk result (λ list. AreKnown (folded_by (T.model table.now) foldings.now) compat list.items) }
+    ensures less { IsLessMarked own.old.items own.new.items }
+    ensures told { OnOk result ((c : ℕ) → Below (IsRowAt (T.model table.now).entries) (length (T.model table.now).entries) c
+        → IsTold (folded_by (T.model table.now) foldings.now) compat own.new.items c) }
+{
+    let mut list = Vec::new(alloc);
+    for at in 0..table.version().row_count() {
+        let first = table.version().row_in(at).first;
+        if let Some(code) = look_at(table, foldings, compat, first, own) {
+            if let Some(image) = known_image(alloc, table, foldings, compat, code)? {
+                list.push(image)?;
+            }
+        }
+    }
+    Ok(list)
+}
+
+impl Images {
+    /// The images of all code points.
+    ///
+    /// # Errors
+    ///
+    /// `Memory` where memory ran out.
+    pub(crate) fn build<T: NormTable>(
+        alloc: Global,
+        table: &T,
+        foldings: &Foldings,
+        compat: bool,
+    ) -> Result<Images, Memory>
+        ensures { IfOk result (AreAllImages (folded_by (T.model table.now) foldings.now) compat) }
+    {
+        table.meets_conditions();
+        foldings.are_in_order();
+        let mut own = Vec::new(alloc);
+        own.resize(CODE_POINTS, 1)?;
+        let of_foldings = of_foldings(alloc, table, foldings, compat, &mut own)?;
+        clear_syllables(table, foldings, &mut own);
+        let of_rows = of_rows(alloc, table, foldings, compat, &mut own)?;
+        Ok(Images {
+            own,
+            of_foldings,
+            of_rows,
+        })
+    }
+}

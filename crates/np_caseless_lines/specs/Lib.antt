@@ -1,0 +1,2 @@
+pub mod CaselessAnswers
+pub mod Laws

@@ -1,0 +1,144 @@
+/* What the extensions for databases share, of no database. */
+#define _POSIX_C_SOURCE 200809L
+
+#include "common.h"
+
+#include <stdio.h>
+#include <string.h>
+#include <sys/stat.h>
+#include <unistd.h>
+
+#define COUNT(array) (sizeof(array) / sizeof *(array))
+
+const char *const file_names[FILE_COUNT] = {"UnicodeData.txt", "CompositionExclusions.txt"};
+
+/* ---- files */
+
+bool is_label(const char *word, size_t size) {
+    size_t length = strspn(word, "0123456789abcdefghijklmnopqrstuvwxyzABCDEFGHIJKLMNOPQRSTUVWXYZ._-");
+    return length > 0 && length < size && word[length] == '\0' && word[0] != '.';
+}
+
+bool measure_file(int file, size_t *length) {
+    struct stat about;
+    if (fstat(file, &about) != 0 || !S_ISREG(about.st_mode) || about.st_size > MOST_OF_A_FILE) return false;
+    *length = (size_t)about.st_size;
+    return true;
+}
+
+bool read_file(int file, uint8_t *room, size_t length) {
+    ssize_t got = 1;
+    size_t at = 0;
+    while (at < length && got > 0) {
+        got = read(file, room + at, length - at);
+        at += got > 0 ? (size_t)got : 0;
+    }
+    return at == length;
+}
+
+size_t digested_size(const bytes files[FILE_COUNT]) {
+    return 8 + files[DATA_FILE].length + files[EXCLUSIONS_FILE].length;
+}
+
+void put_digested(uint8_t *room, const bytes files[FILE_COUNT]) {
+    for (int i = 0; i < 8; i++) room[i] = (uint8_t)((uint64_t)files[DATA_FILE].length >> (8 * i));
+    memcpy(room + 8, files[DATA_FILE].at, files[DATA_FILE].length);
+    memcpy(room + 8 + files[DATA_FILE].length, files[EXCLUSIONS_FILE].at, files[EXCLUSIONS_FILE].length);
+}
+
+/* ---- versions */
+
+npss_answer open_files(npss_handle *handle, const bytes files[FILE_COUNT]) {
+    return npss_open(handle, files[DATA_FILE].at, files[DATA_FILE].length, files[EXCLUSIONS_FILE].at, files[EXCLUSIONS_FILE].length);
+}
+
+static const struct {
+    const char *name;
+    uint8_t form;
+} forms[] = {{"nfc", NPSS_NFC}, {"nfd", NPSS_NFD}, {"nfkc", NPSS_NFKC}, {"nfkd", NPSS_NFKD}};
+
+bool keeps_ascii(npss_handle *handle) {
+    for (size_t i = 0; i < COUNT(forms); i++) {
+        if (npss_keeps_ascii(handle, forms[i].form).status != NPSS_DONE) return false;
+    }
+    return true;
+}
+
+/* Whether a word is a name in small letters, but for the case of its own. */
+static bool is_name(const char *name, const char *word, size_t length) {
+    if (strlen(name) != length) return false;
+    for (size_t i = 0; i < length; i++) {
+        if ((word[i] | 0x20) != name[i]) return false;
+    }
+    return true;
+}
+
+uint8_t form_named(const char *word, size_t length) {
+    for (size_t i = 0; i < COUNT(forms); i++) {
+        if (is_name(forms[i].name, word, length)) return forms[i].form;
+    }
+    return 0;
+}
+
+/* ---- refusals */
+
+static const char *const breaks[] = {
+    [NPSS_LOST] = "Lost",
+    [NPSS_CLASS_CHANGED] = "ClassChanged",
+    [NPSS_MAPPING_CHANGED] = "MappingChanged",
+    [NPSS_NOW_EXCLUDED] = "NowExcluded",
+    [NPSS_NOW_INCLUDED] = "NowIncluded",
+    [NPSS_NEW_COMPOSITE] = "NewComposite",
+};
+
+static const char *const file_faults[] = {
+    [NPSS_FIELD_COUNT] = "FieldCount",
+    [NPSS_BAD_CODE] = "BadCode",
+    [NPSS_OUT_OF_ORDER] = "OutOfOrder",
+    [NPSS_BAD_CATEGORY] = "BadCategory",
+    [NPSS_BAD_CLASS] = "BadClass",
+    [NPSS_BAD_MAPPING] = "BadMapping",
+    [NPSS_RANGE_OPEN] = "RangeOpen",
+    [NPSS_RANGE_LONE] = "RangeLone",
+    [NPSS_RANGE_DIFFERS] = "RangeDiffers",
+    [NPSS_RANGE_MAPS] = "RangeMaps",
+};
+
+static const char *const table_faults[] = {
+    [NPSS_MAPS_TO_UNASSIGNED] = "MapsToUnassigned",
+    [NPSS_TOO_DEEP] = "TooDeep",
+    [NPSS_DECOMPOSITION_TOO_LONG] = "TooLong",
+    [NPSS_AMBIGUOUS_PAIR] = "AmbiguousPair",
+    [NPSS_HANGUL_WRONG] = "HangulWrong",
+};
+
+/* A name by its number, which a library that is newer than these may answer. */
+static const char *named(const char *const *names, size_t count, uint32_t number) {
+    return number < count && names[number] ? names[number] : "unknown";
+}
+
+const char *break_name(npss_answer answer) {
+    return named(breaks, COUNT(breaks), answer.fault);
+}
+
+void put_fault(char *room, npss_answer answer) {
+    const char *second = file_names[EXCLUSIONS_FILE];
+    switch (answer.status) {
+    case NPSS_DATA:
+        snprintf(room, FAULT_SIZE, "%s, line %llu: %s", file_names[DATA_FILE], (unsigned long long)answer.place,
+                 named(file_faults, COUNT(file_faults), answer.fault));
+        break;
+    case NPSS_EXCLUSIONS:
+        snprintf(room, FAULT_SIZE, "%s, line %llu: %s", second, (unsigned long long)answer.place, file_faults[NPSS_BAD_CODE]);
+        break;
+    case NPSS_TABLES:
+        snprintf(room, FAULT_SIZE, "Both files together: %s at code point U+%04X", named(table_faults, COUNT(table_faults), answer.fault),
+                 (unsigned)answer.code);
+        break;
+    case NPSS_TOO_LARGE:
+        snprintf(room, FAULT_SIZE, "%s has more than %d bytes", answer.fault == 1 ? file_names[DATA_FILE] : second, MOST_OF_A_FILE);
+        break;
+    default:
+        snprintf(room, FAULT_SIZE, "the library answered %u", (unsigned)answer.status);
+    }
+}

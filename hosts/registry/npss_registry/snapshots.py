@@ -1,0 +1,96 @@
+"""What was registered at a snapshot, which stands beside the log in parts, so that a node can begin there.
+
+Each part has some of the names, in the order of their places; behind them all stands one that tells their sum.
+"""
+
+import json
+import zlib
+from collections.abc import Iterable, Iterator, Sequence
+from typing import NamedTuple, Optional
+
+from npss_registry import records
+from npss_registry.errors import LogBroken
+from npss_registry.logs import Log
+from npss_registry.records import Name, Snapshot, SnapshotSum
+
+# A part has so many characters before it is packed, and one name more: a server takes it in one request.
+_PART = 1 << 19
+_ENCODER = json.JSONEncoder(ensure_ascii=False, separators=(",", ":"))
+
+
+class Kept(NamedTuple):
+    """What was registered at a snapshot."""
+
+    names: Sequence[Name]
+    told: SnapshotSum
+
+    @property
+    def size(self) -> int:
+        """How many bytes the names have, about."""
+        return sum(len(name.string) + len(name.key) + len(name.owner) for name in self.names)
+
+
+def trimmed_to(log: Log, shard: int) -> Optional[int]:
+    """The place of a shard's first record, where that is a snapshot; else None."""
+    first = log.read(shard, 0, 1)
+    return first[0][0] if first and isinstance(records.read(*first[0]), Snapshot) else None
+
+
+def keep(log: Log, shard: int, names: Iterable[Name], told: SnapshotSum) -> None:
+    """Writes what was registered at a snapshot beside the log. What isn't whole is none: its last part comes last."""
+    number = -1
+    for number, part in enumerate(_parts(names)):
+        log.keep(shard, told.place, number, part)
+    log.keep(shard, told.place, number + 1, records.spelled(told))
+
+
+def load(log: Log, shard: int, place: int) -> Kept:
+    """What was registered at the snapshot at a place. LogBroken where it isn't there, or isn't what its sum tells."""
+    names: list[Name] = []
+    try:
+        for part in _found(log, shard, place):
+            if part.startswith(b"{"):
+                told = records.read(place, part)
+                break
+            names += (_name(*told) for told in json.loads(zlib.decompress(part)))
+        else:
+            raise LogBroken(place, "what was registered there is missing beside the log")
+    except (TypeError, ValueError, zlib.error) as error:
+        raise LogBroken(place, f"what stands beside the log is no part of what was registered there: {error!r}") from error
+    if not isinstance(told, SnapshotSum) or (told.place, told.names, told.sum) != (place, *records.sum_of_names(names)):
+        raise LogBroken(place, "what stands beside the log isn't what was registered there: its sum is another one")
+    if any(one.place >= behind for one, behind in zip(names, [*(name.place for name in names[1:]), place])):
+        raise LogBroken(place, "what stands beside the log isn't what was registered there: its places don't rise")
+    return Kept(names, told)
+
+
+def _found(log: Log, shard: int, place: int) -> Iterator[bytes]:
+    number = 0
+    while (part := log.kept(shard, place, number)) is not None:
+        yield part
+        number += 1
+
+
+def _parts(names: Iterable[Name]) -> Iterator[bytes]:
+    part: list[str] = []
+    size = 0
+    for name in names:
+        part.append(_ENCODER.encode([name.place, name.string, None if name.key == name.string else name.key, name.owner]))
+        size += len(part[-1])
+        if size >= _PART:
+            yield _packed(part)
+            part, size = [], 0
+    if part:
+        yield _packed(part)
+
+
+def _packed(part: Sequence[str]) -> bytes:
+    return zlib.compress(f"[{','.join(part)}]".encode())
+
+
+def _name(place: object, string: object, key: object, owner: object) -> Name:
+    """A name of a part. TypeError where it is none."""
+    made = (place, string, string if key is None else key, owner)
+    if type(place) is not int or not all(isinstance(text, str) for text in made[1:]):
+        raise TypeError(f"{made!r} is no name")
+    return Name(place, str(made[1]), str(made[2]), str(made[3]))

@@ -1,0 +1,128 @@
+#!/usr/bin/env python3
+"""Fuzzes the library for C: tests/library/fuzz.py [--seconds N] [--seed S] [--instrumented] [PREFIX].
+
+PREFIX is where ./build-c installed the library, that of this tree where none is named. In turn, each for N seconds (default
+20): libFuzzer over the calls, whose answers are held against ICU's; texts that are made to be hard, the same way; and
+libFuzzer over npss_open, with small files and with edits of the published ones. ICU and Debian's package unicode-data
+have to be of one version. What is found is written to out/fuzz, and its name is told. The seed is told, too. With
+--instrumented the library is first built once more, with its branches counted, which leads libFuzzer (tests/library/fuzz/instrumented.py).
+
+Run as root it installs Debian's clang and libicu-dev where they are missing, unless NO_APT=1 is set. What can't run here is
+skipped, with the reason. Ends in a line 'N passed, M failed'.
+"""
+
+import argparse
+import random
+import re
+import shutil
+import subprocess
+import sys
+import tempfile
+from pathlib import Path
+
+sys.path.insert(0, str(Path(__file__).resolve().parent.parent))
+
+import ucd
+import versions
+from harness import ROOT, Tally, install
+
+HERE = ROOT / "tests" / "library" / "fuzz"
+# Nothing is written into the tree but out/fuzz.
+sys.dont_write_bytecode = True
+sys.path.append(str(HERE))
+
+import instrumented
+
+FOUND = ROOT / "out" / "fuzz"
+# A fuzzer that ran fewer inputs in a second did nothing. An opening of the published files takes some 10 ms.
+LEAST = {"calls": 200, "texts": 200, "opening": 2}
+# How much longer than its time a run may take: a single input, and the end.
+PATIENCE = 120
+# The bytes of the longest input of libFuzzer.
+LONGEST = {"calls": 4096, "opening": 65536}
+
+
+def missing():
+    """Debian's packages that are not here."""
+    has_icu = shutil.which("pkg-config") and not subprocess.run(["pkg-config", "--exists", "icu-uc"], check=False).returncode
+    return [package for package, here in (("clang", shutil.which("clang++")), ("pkg-config", shutil.which("pkg-config")),
+                                          ("libicu-dev", has_icu)) if not here]
+
+
+def reason():
+    """Why nothing can run here; none where it can."""
+    if missing():
+        install(missing())
+    if missing():
+        return f"not here: {' '.join(missing())}"
+    files, why = ucd.package_files()
+    return why if files is None else None
+
+
+def built(tally, prefix, folder, name):
+    """A fuzzer, or the texts over that of the calls; None where it isn't built."""
+    program = folder / name
+    sources = [HERE / f"{name}.cc"] + ([HERE / "calls.cc"] if name == "texts" else [])
+    checks = "address,undefined" if name == "texts" else "fuzzer,address,undefined"
+    icu = subprocess.run(["pkg-config", "--cflags", "--libs", "icu-uc"], check=True, capture_output=True, text=True).stdout.split()
+    words = ["clang++", "-std=c++17", "-O1", "-g", "-Wall", "-Wextra", "-Werror", f"-fsanitize={checks}", "-fno-sanitize-recover=undefined",
+             f"-I{prefix}/include", *sources, prefix / "lib" / "libnpss.a", "-o", program, *icu]
+    made = subprocess.run(list(map(str, words)), capture_output=True, text=True, check=False)
+    return program if tally.check(f"{name} is built", made.returncode == 0, made.stderr[-2000:]) else None
+
+
+def seeds(folder):
+    """Inputs to begin with: the two files of each fixture, and an edit of the published ones."""
+    at = folder / "seeds"
+    at.mkdir()
+    for number, version in enumerate((versions.V1, versions.V2)):
+        (at / str(number)).write_bytes(b"\xff".join((ROOT / "fixtures" / name).read_bytes() for name in version))
+    (at / "edit").write_bytes(bytes([1, 0, 0, 40, 0, 0, 65]))
+    return at
+
+
+def check_run(tally, name, words, chosen):
+    """A run to the end of its time, of enough inputs."""
+    try:
+        ran = subprocess.run(list(map(str, words)), stdin=subprocess.DEVNULL, capture_output=True, text=True, errors="replace",
+                             timeout=chosen.seconds + PATIENCE, check=False)
+    except subprocess.TimeoutExpired:
+        tally.check(name, False, "no end")
+        return
+    if not tally.check(name, ran.returncode == 0, f"status {ran.returncode}, seed {chosen.seed}: {(ran.stdout + ran.stderr)[-3000:]}"):
+        return
+    told = re.search(r"^(?:stat::number_of_executed_units:\s*)?(\d+)$", ran.stdout + ran.stderr, re.MULTILINE)
+    inputs = int(told[1]) if told else 0
+    tally.check(f"{name}: inputs", inputs >= LEAST[name] * chosen.seconds, f"{inputs} in {chosen.seconds} s")
+    print(f"{name}: {inputs} inputs in {chosen.seconds} s")
+
+
+def main():
+    parser = argparse.ArgumentParser(description="fuzzes the library for C beside ICU")
+    parser.add_argument("--seconds", type=int, default=20, help="how long each runs (default 20)")
+    parser.add_argument("--seed", type=int, default=random.randrange(1, 1 << 31))
+    parser.add_argument("--instrumented", action="store_true", help="over a library whose branches are counted, built for it")
+    parser.add_argument("prefix", type=Path, nargs="?", default=ROOT / "out" / "c", help="where ./build-c installed the library")
+    chosen = parser.parse_args()
+    tally, why = Tally(), reason()
+    if why:
+        print(f"skipped: the fuzzers: {why}")
+        tally.finish()
+    print(f"seed {chosen.seed}", flush=True)
+    FOUND.mkdir(parents=True, exist_ok=True)
+    with tempfile.TemporaryDirectory() as room:
+        folder = Path(room)
+        prefix = instrumented.library_below(folder) if chosen.instrumented else chosen.prefix.resolve()
+        for name in LEAST:
+            program = built(tally, prefix, folder, name)
+            words = [program, chosen.seconds, chosen.seed]
+            if name != "texts":
+                words = [program, f"-max_total_time={chosen.seconds}", f"-seed={chosen.seed}", f"-max_len={LONGEST[name]}", "-print_final_stats=1",
+                         "-timeout=60", f"-artifact_prefix={FOUND}/{name}-", *([seeds(folder)] if name == "opening" else [])]
+            if program:
+                check_run(tally, name, words, chosen)
+    tally.finish()
+
+
+if __name__ == "__main__":
+    main()

@@ -1,0 +1,1 @@
+"""What tests compare with, written from the documents alone, apart from the program. They are called by other tests."""

@@ -1,0 +1,1 @@
+"""What ./test doesn't run, since it takes long."""
