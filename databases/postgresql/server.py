@@ -73,7 +73,9 @@ class Server:
         folder.mkdir()
         own(folder)
         self.data = folder / "data"
-        self.settings = {"unix_socket_directories": folder, "listen_addresses": "", "npss.folder": versions, "fsync": "off"}
+        # What a killed server shared is in its folder, and not in the system's.
+        self.settings = {"unix_socket_directories": folder, "listen_addresses": "", "npss.folder": versions, "fsync": "off",
+                         "dynamic_shared_memory_type": "mmap"}
         self.extra = settings
 
     def create(self):

@@ -309,21 +309,22 @@ class Waits(Case):
         self.assertEqual(self.asked(base, "npss_version()"), 288767, ended)
         self.whole(base)
 
-    def meanwhile(self, text, seconds):
-        """Another connection is in a transaction for some seconds from now on."""
-        comes = threading.Event()
+    def meanwhile(self, text, seconds=None):
+        """Another connection is in a transaction, for some seconds from now on or to the test's end."""
+        comes, ends = threading.Event(), threading.Event()
 
         def other():
             with contextlib.closing(sqlite3.connect(self.path, isolation_level=None)) as base:
                 for statement in text:
                     base.execute(statement).fetchall()
                 comes.set()
-                time.sleep(seconds)
+                ends.wait(seconds)
                 base.execute("COMMIT")
 
         thread = threading.Thread(target=other)
         thread.start()
         self.addCleanup(thread.join)
+        self.addCleanup(ends.set)
         comes.wait()
         return thread
 
@@ -350,7 +351,7 @@ class Waits(Case):
         # The other one may be waiting for this very transaction.
         base = self.with_names()
         base.execute("PRAGMA busy_timeout = 0")
-        thread = self.meanwhile(["BEGIN IMMEDIATE"], 1)
+        thread = self.meanwhile(["BEGIN IMMEDIATE"])
         base.execute("BEGIN")
         self.refused("npss: database is locked", base, "SELECT npss_raise(?)", NEW)
         self.assertTrue(thread.is_alive())
@@ -359,7 +360,7 @@ class Waits(Case):
     def test_a_raise_gives_up(self):
         base = self.with_names()
         base.execute("PRAGMA busy_timeout = 0")
-        self.meanwhile(["BEGIN IMMEDIATE"], 8)
+        self.meanwhile(["BEGIN IMMEDIATE"])
         self.refused("npss: database is locked", base, "SELECT npss_raise(?)", NEW)
         self.assertFalse(base.in_transaction)
         self.assertEqual(self.asked(base, "npss_version()"), OLD_COUNT)

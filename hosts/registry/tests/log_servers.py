@@ -200,7 +200,9 @@ class Postgres(Servers):
         with (self.path(0) / "postgresql.conf").open("a", encoding="ascii") as file:
             file.write(f"listen_addresses = '127.0.0.1'\nunix_socket_directories = '{self.folder}'\nshared_buffers = 16MB\nmax_connections = 40\n"
                        "wal_keep_size = 64MB\nmax_wal_size = 64MB\nmin_wal_size = 4MB\nwal_log_hints = on\nsynchronous_standby_names = 'ANY 1 (p0, p1, p2)'\n"
-                       "wal_receiver_timeout = 5s\nwal_retrieve_retry_interval = 500ms\n")
+                       "wal_receiver_timeout = 5s\nwal_retrieve_retry_interval = 500ms\n"
+                       # What a killed server shared is in its folder, and not in the system's.
+                       "dynamic_shared_memory_type = mmap\n")
         self.primary = 0
         self.start(0)
         for number in (1, 2):
