@@ -232,7 +232,7 @@ def texts():
     for (path, layout), needs in zip(FILES.items(), (None, count)):
         rows = wrapped(answers(needs, version))
         yield path, f'''//! An image of four entries in the {layout} layout that is cut and forged, and what restoring answers, both under the
-//! first fixture's version. `tests/forged_images.py` writes this file from the format alone.
+//! first fixture's version. `tests/models/forged_images.py` writes this file from the format alone.
 
 /// The image, in hex digits.
 pub const IMAGE: &str =

@@ -259,7 +259,7 @@ static PyMethodDef methods[] = {
     {"open", (PyCFunction)(void (*)(void))tables_open, METH_FASTCALL | METH_KEYWORDS | METH_CLASS,
      "open($type, /, data, exclusions, folding=None)\n--\n\nThe version of UnicodeData.txt, CompositionExclusions.txt and, for "
      "caseless keys, CaseFolding.txt.\n\nEach is a path, or the bytes of the file, and all are of one version. Raises BadTables "
-     "where they make none.\nTakes some 10 ms and 6 MB for the published files, with CaseFolding.txt some\n25 ms and 9 MB."},
+     "where they make none.\nTakes 5 to 10 ms and 3 MB for the published files, with CaseFolding.txt 12 to\n25 ms and 6 MB."},
     {"key", FAST(tables_key),
      "key($self, /, text, form='nfc', caseless=False)\n--\n\nThe key of a text: its stabilized string under the form.\n\nThe form is "
      "'nfc', 'nfd', 'nfkc' or 'nfkd'. Raises Unassigned where the version does not\nassign a code point of the text, "

@@ -1,4 +1,4 @@
-//! Calls that are made again where memory was refused to them. Here there is plenty of memory; `tests/refusals.py`
+//! Calls that are made again where memory was refused to them. Here there is plenty of memory; `tests/program/refusals.py`
 //! runs each test `a_refused_CALL_succeeds_after_all` once for each of its allocations, with that one refused, and
 //! counts those after which the call of the test's name was made again.
 

@@ -4,7 +4,7 @@ from npss import Break, Refused
 
 
 class RegistryError(Exception):
-    """Something was not done. Nothing was registered by it."""
+    """Something was not done. Nothing was registered by it, but perhaps where the log is away."""
 
 
 class StoreError(RegistryError):

@@ -178,13 +178,15 @@ class Registry:
             raise Differs(f"the store was set up as {told(self.setup)}; its log as {told(found)}")
 
     def close(self) -> None:
-        """Saves what each shard keeps, and lets store and log go."""
+        """Saves what each shard keeps, and lets store and log go, also where the store takes nothing any more."""
         with self._lock:
-            if not self._ended:
-                with self._writing():
-                    for shard in self.shards:
-                        shard.save()
-            self.abandon()
+            try:
+                if not self._ended:
+                    with self._writing():
+                        for shard in self.shards:
+                            shard.save()
+            finally:
+                self.abandon()
 
     @contextmanager
     def _writing(self, again: bool = False) -> Iterator[None]:

@@ -1,12 +1,14 @@
 """Stores that are opened again."""
 
+import contextlib
 import os
 import shutil
+import sqlite3
 import tempfile
 from pathlib import Path
 
 from cases import OLD, Case, version
-from npss_registry import InUse, LogBroken, Registry, StoreError, init
+from npss_registry import InUse, LogBroken, Registry, RegistryError, StoreError, init
 from npss_registry.records import Setup, claim_of, message, spelled
 
 
@@ -23,6 +25,16 @@ class Restarts(Case):
             again = self.open(node.store.path)
             self.assertEqual([entry.string for entry in again.shards[0].node], ["a", "i"])
         self.assertEqual(self.judged(node.store.path), [])
+
+    def test_a_node_whose_last_save_fails_lets_go(self):
+        node = self.node("one")
+        node.claim("a", "x")
+        with contextlib.closing(sqlite3.connect(node.store.path)) as other:
+            other.execute("ALTER TABLE shard RENAME TO shard_aside")
+            with self.assertRaises((RegistryError, sqlite3.Error)):
+                node.close()
+            other.execute("ALTER TABLE shard_aside RENAME TO shard")
+        self.assertEqual([entry.string for entry in self.open(node.store.path).shards[0].node], ["a"])
 
     def test_what_a_cut_of_the_power_takes_is_read_again(self):
         node = self.node("one")

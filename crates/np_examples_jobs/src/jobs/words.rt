@@ -24,7 +24,7 @@ fn shown(alloc: Global, read: &Result<Job, WordsFault>) -> Result<String, Fail> 
 
 /// A program, by how it reads its words.
 pub(crate) trait ReadsWords {
-    /// What the words are read as; they are read a second time where memory was refused, as `tests/refusals.py` has it
+    /// What the words are read as; they are read a second time where memory was refused, as `tests/program/refusals.py` has it
     /// in turn.
     fn read(alloc: Global, words: &[String]) -> Result<String, Fail>;
 }

@@ -1,5 +1,5 @@
 //! An image of four entries in the first layout that is cut and forged, and what restoring answers, both under the
-//! first fixture's version. `tests/forged_images.py` writes this file from the format alone.
+//! first fixture's version. `tests/models/forged_images.py` writes this file from the format alone.
 
 /// The image, in hex digits.
 pub const IMAGE: &str =
