@@ -30,10 +30,10 @@ class Restarts(Case):
         node = self.node("one")
         node.claim("a", "x")
         with contextlib.closing(sqlite3.connect(node.store.path)) as other:
-            other.execute("ALTER TABLE shard RENAME TO shard_aside")
+            other.execute("ALTER TABLE image RENAME TO image_aside")
             with self.assertRaises((RegistryError, sqlite3.Error)):
                 node.close()
-            other.execute("ALTER TABLE shard_aside RENAME TO shard")
+            other.execute("ALTER TABLE image_aside RENAME TO image")
         self.assertEqual([entry.string for entry in self.open(node.store.path).shards[0].node], ["a"])
 
     def test_what_a_cut_of_the_power_takes_is_read_again(self):
