@@ -1,6 +1,7 @@
 //! The names of the numbers that answers tell: those that the programs print.
-ghost use Rattle.std.specs.Prelude.{◌≡◌, ◌<◌, length};
+ghost use Rattle.std.specs.Prelude.{◌≡◌, ◌<◌, [], get_or, length};
 ghost use Rattle.np_c.specs.Names.{IsBreakName, IsConditionFaultName, IsFaultName, IsFileFaultName, IsFormName, IsRecordFaultName, IsTableFaultName, IsPadded, name_of_status};
+ghost use Rattle.np_c.specs.inside.NameLists.{texts_of};
 
 use crate::answers::{DATA, EXCLUSIONS, FOLDING, FOLDINGS, TABLES};
 use crate::texts::form_in;
@@ -65,15 +66,22 @@ impl Name {
     }
 }
 
+/// The name at a place of a list of names; empty behind its end.
+fn name_at(names: &[&'static str], place: u32) -> &'static str
+    ensures { result.now ≡ get_or (texts_of names.now) place [] }
+{
+    match names.get(place as usize) {
+        Some(name) => name,
+        None => "",
+    }
+}
+
 /// The name of a status; empty where it is none.
 pub fn status_name(status: u32) -> &'static str
     ensures named { result.now ≡ name_of_status status }
     ensures short { length result.now < 32 }
 {
-    match STATUS_NAMES.get(status as usize) {
-        Some(name) => name,
-        None => "",
-    }
+    name_at(STATUS_NAMES, status)
 }
 
 /// The name of the fault of this number in one of the first two files.
