@@ -1,5 +1,5 @@
 -- Names of numbers, and names in a field of fixed size.
-use Rattle.std.proofs.Common.{◌≡◌, ◌++◌, ◌-◌, ◌<◌, ℕ, Bool, true, List, [], drop, get_or, length, ltb, replicate, refl, ⊎_elim, lit<}
+use Rattle.std.proofs.Common.{◌≡◌, ◌++◌, ◌-◌, ◌<◌, ℕ, Bool, true, List, [], drop, length, ltb, replicate, refl, ⊎_elim, lit<}
 use Rattle.std.proofs.lemmas.Bool.{cases_lt, ltb-true}
 use Rattle.std.proofs.lemmas.List.{drop-replicate, get_or_past}
 use Rattle.std.proofs.lemmas.List.Elements.{All-get_or}
