@@ -82,58 +82,27 @@ uint8_t form_named(const char *word, size_t length) {
 
 /* ---- refusals */
 
-static const char *const breaks[] = {
-    [NPSS_LOST] = "Lost",
-    [NPSS_CLASS_CHANGED] = "ClassChanged",
-    [NPSS_MAPPING_CHANGED] = "MappingChanged",
-    [NPSS_NOW_EXCLUDED] = "NowExcluded",
-    [NPSS_NOW_INCLUDED] = "NowIncluded",
-    [NPSS_NEW_COMPOSITE] = "NewComposite",
-};
-
-static const char *const file_faults[] = {
-    [NPSS_FIELD_COUNT] = "FieldCount",
-    [NPSS_BAD_CODE] = "BadCode",
-    [NPSS_OUT_OF_ORDER] = "OutOfOrder",
-    [NPSS_BAD_CATEGORY] = "BadCategory",
-    [NPSS_BAD_CLASS] = "BadClass",
-    [NPSS_BAD_MAPPING] = "BadMapping",
-    [NPSS_RANGE_OPEN] = "RangeOpen",
-    [NPSS_RANGE_LONE] = "RangeLone",
-    [NPSS_RANGE_DIFFERS] = "RangeDiffers",
-    [NPSS_RANGE_MAPS] = "RangeMaps",
-};
-
-static const char *const table_faults[] = {
-    [NPSS_MAPS_TO_UNASSIGNED] = "MapsToUnassigned",
-    [NPSS_TOO_DEEP] = "TooDeep",
-    [NPSS_DECOMPOSITION_TOO_LONG] = "TooLong",
-    [NPSS_AMBIGUOUS_PAIR] = "AmbiguousPair",
-    [NPSS_HANGUL_WRONG] = "HangulWrong",
-};
-
-/* A name by its number, which a library that is newer than these may answer. */
-static const char *named(const char *const *names, size_t count, uint32_t number) {
-    return number < count && names[number] ? names[number] : "unknown";
+/* A name that the library tells; a library that is newer than these may answer a number that it has none for. */
+static npss_name known(npss_name name) {
+    static const npss_name unknown = {"unknown"};
+    return name.text[0] != '\0' ? name : unknown;
 }
 
-const char *break_name(npss_answer answer) {
-    return named(breaks, COUNT(breaks), answer.fault);
+npss_name break_name(npss_answer answer) {
+    return known(npss_break_name(answer.fault));
 }
 
 void put_fault(char *room, npss_answer answer) {
     const char *second = file_names[EXCLUSIONS_FILE];
+    npss_name fault = known(npss_fault_name(answer.status, answer.fault));
     switch (answer.status) {
     case NPSS_DATA:
-        snprintf(room, FAULT_SIZE, "%s, line %llu: %s", file_names[DATA_FILE], (unsigned long long)answer.place,
-                 named(file_faults, COUNT(file_faults), answer.fault));
-        break;
     case NPSS_EXCLUSIONS:
-        snprintf(room, FAULT_SIZE, "%s, line %llu: %s", second, (unsigned long long)answer.place, file_faults[NPSS_BAD_CODE]);
+        snprintf(room, FAULT_SIZE, "%s, line %llu: %s", answer.status == NPSS_DATA ? file_names[DATA_FILE] : second,
+                 (unsigned long long)answer.place, fault.text);
         break;
     case NPSS_TABLES:
-        snprintf(room, FAULT_SIZE, "Both files together: %s at code point U+%04X", named(table_faults, COUNT(table_faults), answer.fault),
-                 (unsigned)answer.code);
+        snprintf(room, FAULT_SIZE, "Both files together: %s at code point U+%04X", fault.text, (unsigned)answer.code);
         break;
     case NPSS_TOO_LARGE:
         snprintf(room, FAULT_SIZE, "%s has more than %d bytes", answer.fault == 1 ? file_names[DATA_FILE] : second, MOST_OF_A_FILE);

@@ -416,6 +416,30 @@ npss_answer npss_stream_finish(npss_stream *stream);
 /* Closes the stream. A closed one stays closed. */
 void npss_stream_close(npss_stream *stream);
 
+/* The names of the numbers above, as the programs print them: ASCII that ends in NUL. A number without a name, as one that a
+ * later version of the library answers, has an empty one.
+ *
+ *     printf("%s %s\n", npss_status_name(a.status).text, npss_fault_name(a.status, a.fault).text);
+ *
+ * So it may be written from C11 on, and in C++; in C99 the name is first kept in a variable. Any thread may ask at any time. */
+typedef struct npss_name {
+    char text[32]; /* the name, and NULs to the end, at least one */
+} npss_name;
+
+/* The name of an npss_status: that of NPSS_NOT_UTF8 is `NotUtf8`. */
+npss_name npss_status_name(uint32_t status);
+
+/* The name of the `fault` of an answer: of DATA and EXCLUSIONS that of an npss_file_fault, of TABLES of an npss_table_fault, of
+ * FOLDING of an npss_folding_fault, of FOLDINGS of an npss_condition_fault; of any other status empty. That of
+ * NPSS_FIELD_COUNT is `FieldCount`, and that of NPSS_DECOMPOSITION_TOO_LONG `TooLong`. */
+npss_name npss_fault_name(uint32_t status, uint32_t fault);
+
+/* The name of an npss_break: that of NPSS_CLASS_CHANGED is `ClassChanged`. */
+npss_name npss_break_name(uint32_t kind);
+
+/* The name of an npss_form: `nfd`, `nfc`, `nfkd` or `nfkc`. */
+npss_name npss_form_name(uint8_t form);
+
 #ifdef __cplusplus
 }
 #endif

@@ -146,7 +146,7 @@ class Texts(unittest.TestCase):
             self.tables.key(text)
         error = caught.exception
         self.assertEqual((error.code, error.place, error.index), (0x16D67, 3, 1))
-        self.assertEqual(str(error), "16D67 at character 1 (byte 3) is not assigned")
+        self.assertEqual(str(error), "unassigned 16D67 at byte 3")
         self.assertEqual(pickle.loads(pickle.dumps(error)).place, 3)
         self.assertEqual(self.tables.normalize(text), text)
         self.assertIsNone(error.number)
@@ -717,8 +717,8 @@ class Habits(unittest.TestCase):
     def test_a_refusal_tells_which_text(self):
         with self.assertRaises(Unassigned) as caught:
             self.tables.keys(["a", "", "aA\U0010ffff"])
-        self.assertEqual((caught.exception.number, str(caught.exception)), (2, "10FFFF at character 2 (byte 2) of text 2 is not assigned"))
-        self.assertEqual(str(self.tables.first_unassigned("\U0010ffff")), "10FFFF at character 0 (byte 0) is not assigned")
+        self.assertEqual((caught.exception.number, str(caught.exception)), (2, "text 2: unassigned 10FFFF at byte 2"))
+        self.assertEqual(str(self.tables.first_unassigned("\U0010ffff")), "unassigned 10FFFF at byte 0")
 
     def test_errors_are_those_of_the_package(self):
         for name in ("BadEntry", "BadTables", "Full", "KeyDiffers", "Malformed", "NoFolding", "NotUtf8", "OlderTables", "OtherForm", "Refused", "TooLong", "Unassigned"):

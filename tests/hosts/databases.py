@@ -17,6 +17,7 @@ from pathlib import Path
 
 sys.path.insert(0, str(Path(__file__).resolve().parent.parent))
 
+import page_names
 import ucd
 from harness import ROOT, Tally, install
 
@@ -76,22 +77,14 @@ def loading_python():
     return python_for(LOADS)
 
 
-def numbered(page, front):
-    """The names of a page's table by their numbers, behind a text of the page."""
-    rows = (ROOT / "docs" / page).read_text(encoding="utf-8").partition(front)[2].partition("\n\n")[0]
-    return {int(number): name for number, name in re.findall(r"^\| (\d+) \| `(\w+)` \|", rows, re.MULTILINE)}
-
-
 def wanted_of_common():
     """What the extensions tell of each number, by the pages; a number that no page has is unknown."""
-    files, tables = numbered("FORMATS.md", "| Number | Name |"), numbered("STANDARD.md", "| Number | Name |")
-    listed = re.search(r"The kinds are, by their numbers from 1, (.*?)\.", (ROOT / "docs" / "FORMATS.md").read_text(encoding="utf-8"))[1]
-    breaks = dict(enumerate(re.findall(r"`(\w+)`", listed), 1))
+    files, tables, breaks = page_names.file_faults(), page_names.table_faults(), page_names.break_names()
     wanted = {}
     for number in (*range(16), 64, 1 << 31, (1 << 32) - 1):
         wanted |= {f"break {number}": breaks.get(number, "unknown"),
                    f"data {number}": f"UnicodeData.txt, line {(1 << 64) - 1}: {files.get(number, 'unknown')}",
-                   f"exclusions {number}": "CompositionExclusions.txt, line 7: BadCode",
+                   f"exclusions {number}": f"CompositionExclusions.txt, line 7: {files.get(number, 'unknown')}",
                    f"tables {number}": f"Both files together: {tables.get(number, 'unknown')} at code point U+10FFFF"}
     for number, name in enumerate((ucd.DATA, ucd.EXCLUSIONS), 1):
         wanted[f"large {number}"] = f"{name} has more than 16777216 bytes"

@@ -29,6 +29,7 @@ TESTS = Path(__file__).resolve().parent.parent
 sys.path[:0] = [str(TESTS), str(TESTS / "program")]
 
 from program import caseless, costs, histories
+import page_names
 import ucd
 import versions
 from harness import ROOT, Tally, install, run
@@ -37,7 +38,7 @@ HERE = ROOT / "tests" / "library" / "doors"
 V1, V2 = ([str(ROOT / "fixtures" / name) for name in version] for version in (versions.V1, versions.V2))
 FOLDING = ROOT / "fixtures" / "caseless" / "v1" / "CaseFolding.txt"
 # The calls that the header names, without their prefix.
-CALLS = sorted(re.findall(r"^(?:npss_answer|void) npss_(\w+)\(", (ROOT / "include" / "npss.h").read_text(encoding="utf-8"), re.MULTILINE))
+CALLS = sorted(re.findall(r"^(?:npss_answer|npss_name|void) npss_(\w+)\(", (ROOT / "include" / "npss.h").read_text(encoding="utf-8"), re.MULTILINE))
 # The form's letter for C, and its name for the program.
 LETTERS = {"D": "nfd", "C": "nfc", "d": "nfkd", "c": "nfkc"}
 # The keys of the lines of the input, by Python: words are the form and the two files.
@@ -131,6 +132,26 @@ def check_names(tally, prefix):
     tally.same("no other names", sorted(name for name in names if not name.lower().startswith("npss_")), [])
     told = done(tally, "readelf", ["readelf", "-d", library]) or ""
     tally.same("what it wants", set(re.findall(r"\(NEEDED\).*\[(.*)\]", told)), {"libc.so.6"})
+
+
+def wanted_names():
+    """The names that have a number, by the pages and the header."""
+    of_status = {7: page_names.file_faults(), 8: page_names.file_faults(), 9: page_names.table_faults(), 24: page_names.folding_faults(),
+                 25: page_names.condition_faults()}
+    names = {f"status {number}": name for number, name in page_names.status_names().items()}
+    names |= {f"break {number}": name for number, name in page_names.break_names().items()}
+    names |= {f"fault {status} {number}": name for status, faults in of_status.items() for number, name in faults.items()}
+    return names | {f"form {ord(letter)}": name for letter, name in LETTERS.items()}
+
+
+def check_told_names(tally, prefix, folder):
+    """Each number has the name of the pages, or none."""
+    names = wanted_names()
+    for shared in (False, True):
+        program = compiled(tally, prefix, folder, "names", shared)
+        lines = [line.split("\t", 1) for line in (done(tally, f"{program.name} runs", [program]) or "").splitlines()] if program else []
+        tally.same("the names of numbers", {number: name for number, name in lines if name}, names)
+        tally.same("how many were asked: 45 numbers, each also beside each, and 256 letters", len(lines), 45 * (2 + 45) + 256)
 
 
 def check_c(tally, prefix, folder):
@@ -396,6 +417,7 @@ def main():
         folder = Path(name)
         check_header(tally, prefix, folder)
         check_names(tally, prefix)
+        check_told_names(tally, prefix, folder)
         check_c(tally, prefix, folder)
         check_history(tally, Path(sys.argv[1]).resolve(), prefix, folder)
         check_flags(tally, prefix, folder)

@@ -12,29 +12,20 @@ static const char *const file_names[] = {"data", "exclusions", "folding"};
 
 /* The fault of a file at its line. */
 static PyObject *bad_line(const module_state *state, npss_answer a) {
-    static const char *const file_faults[] = {"",         "FieldCount", "BadCode",   "OutOfOrder", "BadCategory",
-                                              "BadClass", "BadMapping", "RangeOpen", "RangeLone",  "RangeDiffers",
-                                              "RangeMaps"};
-    static const char *const folding_faults[] = {"",           "FieldCount",     "BadCode",   "BadStatus",
-                                                 "OutOfOrder", "StatusConflict", "BadMapping"};
     const int number = a.status == NPSS_FOLDING ? 2 : a.status == NPSS_EXCLUSIONS;
     return PyObject_CallFunction(state->of[BAD_TABLES], "sKs", file_names[number], (unsigned long long)a.place,
-                                 number == 2 ? folding_faults[a.fault] : file_faults[a.fault]);
+                                 npss_fault_name(a.status, a.fault).text);
 }
 
 static PyObject *bad_tables(const module_state *state, npss_answer a) {
-    static const char *const table_faults[] = {"",        "MapsToUnassigned", "TooDeep",
-                                               "TooLong", "AmbiguousPair",    "HangulWrong"};
-    static const char *const condition_faults[] = {"",           "FoldsUnassigned", "FoldsToUnassigned",
-                                                   "FoldsAgain", "FoldedTooLong",   "NotFolded"};
     PyObject *class = state->of[BAD_TABLES];
     switch (a.status) {
     case NPSS_TABLES:
-        return PyObject_CallFunction(class, "sOsI", "tables", Py_None, table_faults[a.fault], a.code);
     case NPSS_FOLDINGS:
-        return PyObject_CallFunction(class, "sOsI", "folding", Py_None, condition_faults[a.fault], a.code);
+        return PyObject_CallFunction(class, "sOsI", a.status == NPSS_TABLES ? "tables" : "folding", Py_None,
+                                     npss_fault_name(a.status, a.fault).text, a.code);
     case NPSS_TOO_LARGE:
-        return PyObject_CallFunction(class, "sOs", file_names[a.fault - 1], Py_None, "TooLarge");
+        return PyObject_CallFunction(class, "sOs", file_names[a.fault - 1], Py_None, npss_status_name(a.status).text);
     default:
         return bad_line(state, a);
     }
@@ -125,7 +116,5 @@ PyObject *refuse_image(const module_state *state, npss_answer a, const uint8_t *
 }
 
 PyObject *break_of(const module_state *state, npss_answer a) {
-    static const char *const kinds[] = {
-        "", "Lost", "ClassChanged", "MappingChanged", "NowExcluded", "NowIncluded", "NewComposite", "FoldingChanged"};
-    return PyObject_CallFunction(state->of[BREAK_CLASS], "sI", kinds[a.fault], a.code);
+    return PyObject_CallFunction(state->of[BREAK_CLASS], "sI", npss_break_name(a.fault).text, a.code);
 }

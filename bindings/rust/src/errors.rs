@@ -1,5 +1,6 @@
 //! Why a call has no answer.
 
+use crate::names::Name;
 use crate::raw::{self, Answer};
 use crate::values::Break;
 use std::error::Error;
@@ -42,7 +43,7 @@ pub enum OpenError {
         /// The line.
         line: u64,
         /// The name of the fault, like `BadClass`.
-        name: &'static str,
+        name: Name,
     },
     /// A file has more than 16,777,216 bytes.
     TooLarge {
@@ -54,14 +55,14 @@ pub enum OpenError {
         /// The code point.
         code: u32,
         /// The name of the fault, like `TooDeep`.
-        name: &'static str,
+        name: Name,
     },
     /// The version has a fault with the foldings of the third file at a code point, as where they are of two versions.
     Foldings {
         /// The code point.
         code: u32,
         /// The name of the fault, like `NotFolded`.
-        name: &'static str,
+        name: Name,
     },
     /// Memory ran out.
     Memory,

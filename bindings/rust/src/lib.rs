@@ -26,6 +26,7 @@
 #![warn(missing_docs)]
 
 mod errors;
+mod names;
 mod nodes;
 mod opening;
 mod pool;
@@ -39,6 +40,7 @@ pub use errors::{
     CaselessError, ExtensionError, File, KeyError, Memory, NewNodeError, OpenError, Refused,
     RestoreError, StreamError, UpgradeError,
 };
+pub use names::Name;
 pub use nodes::{Accepted, Entry, Node, MOST_ROOM};
 pub use streams::{Normalizer, Stream};
 pub use tables::Tables;

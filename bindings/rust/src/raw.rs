@@ -13,6 +13,13 @@ pub struct Answer {
     pub length: u64,
 }
 
+/// A name in ASCII, and NULs behind it to the end.
+#[repr(C)]
+#[derive(Clone, Copy, PartialEq, Eq)]
+pub struct Name {
+    pub text: [u8; 32],
+}
+
 /// A handle on a table, a node or a stream; zeros are a closed one.
 #[repr(C)]
 pub struct Handle {
@@ -201,4 +208,5 @@ extern "C" {
     pub fn npss_node_upgrade(node: *mut Handle, tables: *mut Handle) -> Answer;
     pub fn npss_node_version(node: *mut Handle) -> Answer;
     pub fn npss_node_close(node: *mut Handle);
+    pub fn npss_fault_name(status: u32, fault: u32) -> Name;
 }

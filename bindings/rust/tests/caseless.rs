@@ -173,31 +173,19 @@ fn files_at_the_edges() {
 fn which_file_is_faulty() {
     let none = |files: [&[u8]; 3]| Tables::open_caseless(files[0], files[1], files[2]).unwrap_err();
     let faulty: &[u8] = b"0041; Q; 0061;\n";
-    let at_line = |file, name| OpenError::File {
-        file,
-        line: 1,
-        name,
-    };
+    let told = |files| none(files).to_string();
     assert_eq!(
-        none([b"0041;x\n", b"none", faulty]),
-        at_line(File::Data, "FieldCount")
+        told([b"0041;x\n", b"none", faulty]),
+        "data: line 1: FieldCount"
     );
-    assert_eq!(
-        none([b"", b"none", faulty]),
-        at_line(File::Exclusions, "BadCode")
-    );
-    assert_eq!(
-        none([b"", b"", faulty]),
-        at_line(File::Folding, "BadStatus")
-    );
-    let folds: &[u8] = b"0041; C; 0061;\n";
-    assert_eq!(
-        none([b"", b"", folds]),
-        OpenError::Foldings {
-            code: 0x41,
-            name: "FoldsUnassigned"
+    assert_eq!(told([b"", b"none", faulty]), "exclusions: line 1: BadCode");
+    assert_eq!(told([b"", b"", faulty]), "folding: line 1: BadStatus");
+    match none([b"", b"", b"0041; C; 0061;\n"]) {
+        OpenError::Foldings { code, name } => {
+            assert_eq!((code, &*name), (0x41, "FoldsUnassigned"))
         }
-    );
+        other => panic!("{other:?}"),
+    }
     let large = vec![b'\n'; 16_777_217];
     assert_eq!(
         none([b"", b"", &large]),

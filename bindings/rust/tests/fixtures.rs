@@ -87,18 +87,17 @@ fn lines_are_answered() {
 fn files_are_refused() {
     let exclusions = bytes("v1/CompositionExclusions.txt");
     let none = |data: &[u8], exclusions: &[u8]| Tables::open(data, exclusions).unwrap_err();
-    let file = OpenError::File {
-        file: File::Data,
-        line: 1,
-        name: "FieldCount",
+    let at_line = |error| match error {
+        OpenError::File { file, line, name } => (file, line, name.to_string()),
+        other => panic!("{other:?}"),
     };
-    assert_eq!(none(b"0041;x\n", &exclusions), file);
-    let file = OpenError::File {
-        file: File::Exclusions,
-        line: 1,
-        name: "BadCode",
-    };
-    assert_eq!(none(b"", b"none"), file);
+    assert_eq!(
+        at_line(none(b"0041;x\n", &exclusions)),
+        (File::Data, 1, "FieldCount".to_owned())
+    );
+    let error = none(b"", b"\nnone");
+    assert_eq!(at_line(error), (File::Exclusions, 2, "BadCode".to_owned()));
+    assert_eq!(error.to_string(), "exclusions: line 2: BadCode");
     let tables = none(b"0041;X;Lu;0;L;0042;;;;N;;;;;\n", &exclusions);
     assert_eq!(tables.to_string(), "tables: MapsToUnassigned 0041");
     let large = vec![b'\n'; 16_777_217];

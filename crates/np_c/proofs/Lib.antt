@@ -1,5 +1,6 @@
 mod AnswerLemmas
 mod AsciiLemmas
 mod KeyLemmas
+mod NameLemmas
 mod Rows
 mod StreamLemmas

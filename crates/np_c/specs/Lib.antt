@@ -9,6 +9,7 @@ pub mod FoldingExtension
 pub mod FoldingFiles
 pub mod Foldings
 pub mod Lines
+pub mod Names
 pub mod NodeOpening
 pub mod NodeReading
 pub mod Nodes

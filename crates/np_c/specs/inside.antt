@@ -1,5 +1,6 @@
 pub mod FaultAnswers
 pub mod FoldingSteps
+pub mod NameLists
 pub mod Owned
 pub mod Questions
 pub mod Streams

@@ -22,6 +22,8 @@ mod kept_node;
 mod kept_streams;
 mod keys;
 mod lines;
+mod name_exports;
+mod names;
 mod node_exports;
 mod node_opening;
 mod node_reading;

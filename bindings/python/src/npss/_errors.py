@@ -28,8 +28,8 @@ class Unassigned(Refused):
         self.index = index
 
     def __str__(self) -> str:
-        where = f"byte {self.place}" if self.index is None else f"character {self.index} (byte {self.place})"
-        return f"{self.code:04X} at {where}{'' if self.number is None else f' of text {self.number}'} is not assigned"
+        which = "" if self.number is None else f"text {self.number}: "
+        return f"{which}unassigned {self.code:04X} at byte {self.place}"
 
 
 class NoFolding(Refused):
