@@ -10,7 +10,7 @@
 
 #define COUNT(array) (sizeof(array) / sizeof *(array))
 
-const char *const file_names[FILE_COUNT] = {"UnicodeData.txt", "CompositionExclusions.txt"};
+const char *const file_names[FILE_COUNT] = {"UnicodeData.txt", "CompositionExclusions.txt", "CaseFolding.txt"};
 
 /* ---- files */
 
@@ -49,7 +49,18 @@ void put_digested(uint8_t *room, const bytes files[FILE_COUNT]) {
 /* ---- versions */
 
 npss_answer open_files(npss_handle *handle, const bytes files[FILE_COUNT]) {
-    return npss_open(handle, files[DATA_FILE].at, files[DATA_FILE].length, files[EXCLUSIONS_FILE].at, files[EXCLUSIONS_FILE].length);
+    const bytes *data = &files[DATA_FILE], *exclusions = &files[EXCLUSIONS_FILE], *folding = &files[FOLDING_FILE];
+    if (!folding->at) return npss_open(handle, data->at, data->length, exclusions->at, exclusions->length);
+    return npss_open_caseless(handle, data->at, data->length, exclusions->at, exclusions->length, folding->at, folding->length);
+}
+
+bool has_foldings(npss_handle *handle) {
+    uint8_t text[1] = {0}, room[1];
+    return handle->is_open && npss_caseless_key(handle, NPSS_NFC, text, 0, room, sizeof room).status != NPSS_NO_FOLDING;
+}
+
+npss_answer keeps_keys(npss_handle *older, npss_handle *newer, bool caseless) {
+    return caseless ? npss_caseless_extends(older, newer) : npss_extends(older, newer);
 }
 
 static const struct {
@@ -89,6 +100,7 @@ static const char *const breaks[] = {
     [NPSS_NOW_EXCLUDED] = "NowExcluded",
     [NPSS_NOW_INCLUDED] = "NowIncluded",
     [NPSS_NEW_COMPOSITE] = "NewComposite",
+    [NPSS_FOLDING_CHANGED] = "FoldingChanged",
 };
 
 static const char *const file_faults[] = {
@@ -110,6 +122,23 @@ static const char *const table_faults[] = {
     [NPSS_DECOMPOSITION_TOO_LONG] = "TooLong",
     [NPSS_AMBIGUOUS_PAIR] = "AmbiguousPair",
     [NPSS_HANGUL_WRONG] = "HangulWrong",
+};
+
+static const char *const folding_faults[] = {
+    [NPSS_FOLDING_FIELD_COUNT] = "FieldCount",
+    [NPSS_FOLDING_BAD_CODE] = "BadCode",
+    [NPSS_FOLDING_BAD_STATUS] = "BadStatus",
+    [NPSS_FOLDING_OUT_OF_ORDER] = "OutOfOrder",
+    [NPSS_FOLDING_STATUS_CONFLICT] = "StatusConflict",
+    [NPSS_FOLDING_BAD_MAPPING] = "BadMapping",
+};
+
+static const char *const condition_faults[] = {
+    [NPSS_FOLDS_UNASSIGNED] = "FoldsUnassigned",
+    [NPSS_FOLDS_TO_UNASSIGNED] = "FoldsToUnassigned",
+    [NPSS_FOLDS_AGAIN] = "FoldsAgain",
+    [NPSS_FOLDED_TOO_LONG] = "FoldedTooLong",
+    [NPSS_NOT_FOLDED] = "NotFolded",
 };
 
 /* A name by its number, which a library that is newer than these may answer. */
@@ -135,8 +164,16 @@ void put_fault(char *room, npss_answer answer) {
         snprintf(room, FAULT_SIZE, "Both files together: %s at code point U+%04X", named(table_faults, COUNT(table_faults), answer.fault),
                  (unsigned)answer.code);
         break;
+    case NPSS_FOLDING:
+        snprintf(room, FAULT_SIZE, "%s, line %llu: %s", file_names[FOLDING_FILE], (unsigned long long)answer.place,
+                 named(folding_faults, COUNT(folding_faults), answer.fault));
+        break;
+    case NPSS_FOLDINGS:
+        snprintf(room, FAULT_SIZE, "The three files together: %s at code point U+%04X",
+                 named(condition_faults, COUNT(condition_faults), answer.fault), (unsigned)answer.code);
+        break;
     case NPSS_TOO_LARGE:
-        snprintf(room, FAULT_SIZE, "%s has more than %d bytes", answer.fault == 1 ? file_names[DATA_FILE] : second, MOST_OF_A_FILE);
+        snprintf(room, FAULT_SIZE, "%s has more than %d bytes", named(file_names, FILE_COUNT, answer.fault - 1), MOST_OF_A_FILE);
         break;
     default:
         snprintf(room, FAULT_SIZE, "the library answered %u", (unsigned)answer.status);
