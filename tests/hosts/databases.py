@@ -31,6 +31,8 @@ AGES = ((13, 0), (14, 0))
 SYSTEM_PYTHON = "/usr/bin/python3"
 LOADS = "import sqlite3; sqlite3.connect(':memory:').enable_load_extension(True)"
 CLIENTS = "import psycopg, pymysql"
+# The head of a table of the pages that names numbers.
+HEAD = "| Number | Name |"
 
 
 def has_sqlite():
@@ -38,15 +40,22 @@ def has_sqlite():
 
 
 def versions_below(files, folder):
-    """A folder that has one folder for each version, for anybody to read."""
-    named = {".".join(map(str, age)): ucd.write_cut(files, age, folder)[0] for age in AGES}
-    named["15.0"] = [files[ucd.DATA], files[ucd.EXCLUSIONS]]
-    for label, names in named.items():
-        (folder / label).mkdir()
-        for name, to in zip(names, (ucd.DATA, ucd.EXCLUSIONS)):
-            shutil.copy(name, folder / label / to)
+    """A folder that has one folder for each version, and all once more with CaseFolding.txt below `caseless`, for anybody to read."""
+    for age in AGES:
+        names, kept = ucd.write_cut(files, age, folder)
+        put_version(folder, ".".join(map(str, age)), names, ucd.cut_foldings(ucd.text_of(files, ucd.FOLDING), kept))
+    put_version(folder, "15.0", [files[ucd.DATA], files[ucd.EXCLUSIONS]], ucd.text_of(files, ucd.FOLDING))
     folder.chmod(0o755)
     return folder
+
+
+def put_version(folder, label, names, folding):
+    """Puts the two files of a version below its label, and with its foldings below `caseless`."""
+    for to in (folder / label, folder / "caseless" / label):
+        to.mkdir(parents=True)
+        for name, file in zip(names, (ucd.DATA, ucd.EXCLUSIONS)):
+            shutil.copy(name, to / file)
+    (folder / "caseless" / label / ucd.FOLDING).write_text(folding, encoding="utf-8")
 
 
 def counted(tally, name, words, **options):
@@ -76,24 +85,33 @@ def loading_python():
     return python_for(LOADS)
 
 
-def numbered(page, front):
-    """The names of a page's table by their numbers, behind a text of the page."""
-    rows = (ROOT / "docs" / page).read_text(encoding="utf-8").partition(front)[2].partition("\n\n")[0]
+def numbered(page, *fronts):
+    """The names of a page's table by their numbers, behind texts of the page, one after the other."""
+    text = (ROOT / "docs" / page).read_text(encoding="utf-8")
+    for front in fronts:
+        text = text.partition(front)[2]
+    rows = text.partition("\n\n")[0]
     return {int(number): name for number, name in re.findall(r"^\| (\d+) \| `(\w+)` \|", rows, re.MULTILINE)}
 
 
 def wanted_of_common():
     """What the extensions tell of each number, by the pages; a number that no page has is unknown."""
-    files, tables = numbered("FORMATS.md", "| Number | Name |"), numbered("STANDARD.md", "| Number | Name |")
-    listed = re.search(r"The kinds are, by their numbers from 1, (.*?)\.", (ROOT / "docs" / "FORMATS.md").read_text(encoding="utf-8"))[1]
+    files, tables = numbered("FORMATS.md", HEAD), numbered("STANDARD.md", HEAD)
+    lines, conditions = (numbered("FORMATS.md", *fronts) for fronts in (("\n## CaseFolding.txt\n", HEAD), ("has to meet five conditions", HEAD)))
+    text = (ROOT / "docs" / "FORMATS.md").read_text(encoding="utf-8")
+    listed = re.search(r"The kinds are, by their numbers from 1, (.*?)\.", text)[1]
     breaks = dict(enumerate(re.findall(r"`(\w+)`", listed), 1))
+    more = re.search(r"has the kind `(\w+)` more, number (\d+)", text)
+    breaks[int(more[2])] = more[1]
     wanted = {}
     for number in (*range(16), 64, 1 << 31, (1 << 32) - 1):
         wanted |= {f"break {number}": breaks.get(number, "unknown"),
                    f"data {number}": f"UnicodeData.txt, line {(1 << 64) - 1}: {files.get(number, 'unknown')}",
                    f"exclusions {number}": "CompositionExclusions.txt, line 7: BadCode",
-                   f"tables {number}": f"Both files together: {tables.get(number, 'unknown')} at code point U+10FFFF"}
-    for number, name in enumerate((ucd.DATA, ucd.EXCLUSIONS), 1):
+                   f"tables {number}": f"Both files together: {tables.get(number, 'unknown')} at code point U+10FFFF",
+                   f"folding {number}": f"CaseFolding.txt, line 7: {lines.get(number, 'unknown')}",
+                   f"foldings {number}": f"The three files together: {conditions.get(number, 'unknown')} at code point U+0041"}
+    for number, name in enumerate((ucd.DATA, ucd.EXCLUSIONS, ucd.FOLDING), 1):
         wanted[f"large {number}"] = f"{name} has more than 16777216 bytes"
     return wanted | {"status 0": "the library answered 4294967295", "digested": "0200000000000000616263"}
 
@@ -112,7 +130,7 @@ def check_common(tally, prefix, room):
     told = dict(line.split("\t", 1) for line in ran.stdout.splitlines())
     wanted = wanted_of_common()
     tally.same("what the extensions share tells", (ran.returncode, {name: told.get(name) for name in wanted}), (0, wanted))
-    tally.check("the pages have all names", sum("unknown" not in text for name, text in wanted.items() if name.startswith(("break", "data", "tables"))) >= 21, wanted)
+    tally.check("the pages have all names", sum("unknown" not in text for name, text in wanted.items() if name.startswith(("break", "data", "tables", "folding"))) >= 33, wanted)
     tally.same("forms by their words", {word: int(told[f"word {word}"].split()[0]) for word in words}, words)
     tally.same("labels of versions", {word: int(told[f"word {word}"].split()[1]) for word in labels}, labels)
 
