@@ -4,7 +4,7 @@ import hashlib
 import os
 import shutil
 
-from cases import CASED, FOLDING, MARKED, VERSIONS, YOUNGEST, Case, copied
+from cases import CASED, FILES, FOLDING, MARKED, VERSIONS, YOUNGEST, Case, copied
 from server import Server, Session, SqlError, run
 
 # Of the calls one each that wants foldings.
@@ -84,6 +84,10 @@ class Foldings(Apart):
         for text in ("folding = NULL", "folding = repeat('0', 64)", f"folding = '{right}'", "since = now()"):
             self.refused("55000", f"UPDATE npss_record SET {text}", base)
         self.refused("55000", "SET session_replication_role = replica; UPDATE npss_record SET folding = NULL", base)
+        other = (CASED / "14.0" / FOLDING).read_bytes() + b"# more\n"
+        self.put("14.0", other)
+        self.refused("55000", f"UPDATE npss_record SET folding = '{hashlib.sha256(other).hexdigest()}'", base)
+        self.put("14.0")
         for text in ("DELETE FROM npss_record", "TRUNCATE npss_record"):
             self.refused("55000", text, base)
         self.assertEqual(self.server.sql("SELECT npss_caseless_nfc('A')", base), "a")
@@ -101,6 +105,20 @@ class Foldings(Apart):
         self.assertIn("version 15.0 has no CaseFolding.txt, which version 14.0 has", self.refused("55000", "SELECT npss_raise('15.0')", base))
         self.put("15.0")
         self.assertEqual(self.server.sql("SELECT npss_raise('15.0')", base), "15.0")
+
+    def test_of_two_versions_with_as_many_code_points_that_with_foldings_is_in_force(self):
+        base = self.base("equal", "15.0")
+        folder = copied(self.versions, {"15.0b": CASED / "15.0"}) / "15.0b"
+        self.addCleanup(shutil.rmtree, folder)
+        exclusions = folder / FILES[1]
+        exclusions.write_bytes(exclusions.read_bytes() + b"# the same\n")
+        self.assertEqual(self.server.sql("SELECT npss_audit('15.0b')", base), "extends")
+        self.server.sql("SELECT npss_raise('15.0b')", base)
+        self.put("15.0", (CASED / "15.0" / FOLDING).read_bytes() + b"# the same\n")
+        for _ in range(2):
+            self.assertEqual(self.server.sql("SELECT npss_caseless_nfc('A')", base), "a")
+            self.server.sql("SELECT npss_raise('15.0')", base)
+        self.assertEqual(sorted(self.recorded(base)), ["15.0b|" + digest_of("15.0"), "15.0|none"])
 
     def test_foldings_under_another_name(self):
         base = self.base("named", "15.0")
