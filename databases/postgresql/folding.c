@@ -49,6 +49,8 @@ gets_folding(HeapTuple before, HeapTuple after, TupleDesc shape)
 {
 	char		folding[DIGEST_SIZE];
 
+	if (shape->natts < FOLDING_COLUMN)
+		return false;
 	for (int column = 1; column <= shape->natts; column++)
 		if (column != FOLDING_COLUMN && !is_kept_in(before, after, shape, column))
 			return false;
@@ -65,11 +67,11 @@ is_here(HeapTuple row, TupleDesc shape)
 	bool		same;
 	char		label[LABEL_SIZE],
 				digest[DIGEST_SIZE],
-				folding[DIGEST_SIZE];
+				folding[DIGEST_SIZE + 1];	/* so that a longer one is another one */
 
 	put_column(row, shape, LABEL_COLUMN, label, LABEL_SIZE);
 	put_column(row, shape, DIGEST_COLUMN, digest, DIGEST_SIZE);
-	put_column(row, shape, FOLDING_COLUMN, folding, DIGEST_SIZE);
+	put_column(row, shape, FOLDING_COLUMN, folding, sizeof folding);
 	version = open_version(label, NULL, &failure);
 	if (version == NULL)
 		report(ERROR, &failure);

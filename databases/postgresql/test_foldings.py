@@ -78,7 +78,7 @@ class Foldings(Apart):
         self.put("14.0")
         others = ("label = 'x'", "digest = repeat('0', 64)", "assigned = assigned + 1", "ascii = NOT ascii", "since = now() - interval '1 day'", "by_whom = 'x'")
         for text in (*others, *(f"folding = '{right}', {other}" for other in others), "folding = NULL", "folding = repeat('0', 64)", "folding = ''",
-                     f"folding = upper('{right}')", "label = label"):
+                     f"folding = upper('{right}')", f"folding = '{right}x'", "label = label"):
             self.assertIn("npss_record only grows", self.refused("55000", f"UPDATE npss_record SET {text}", base), text)
         self.server.sql(f"UPDATE npss_record SET folding = '{right}'", base)
         for text in ("folding = NULL", "folding = repeat('0', 64)", f"folding = '{right}'", "since = now()"):
