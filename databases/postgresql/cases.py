@@ -14,6 +14,7 @@ from server import Server, Session, SqlError
 
 sys.path.append(str(Path(__file__).resolve().parent.parent))
 
+import fixture_rows
 from fixture_rows import FILES, FOLDING
 
 PREFIX, VERSIONS, FIXTURES = (Path(word).resolve() for word in sys.argv[1:4])

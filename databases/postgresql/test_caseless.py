@@ -2,10 +2,9 @@
 
 import unicodedata
 
-import fixture_rows
-from cases import CASED, FOLDING, MARKED, VERSIONS, Case, copied
-from fixture_rows import caseless
+from cases import CASED, FOLDING, MARKED, VERSIONS, Case, copied, fixture_rows
 
+caseless = fixture_rows.caseless
 # A capital that is new in 14.0, and its small letter.
 CAPITAL, SMALL = "\u2c2f", "\u2c5f"
 LONG = 1_048_576

@@ -128,24 +128,24 @@ class Foldings(Apart):
         self.assertEqual(self.recorded(base), ["15.0|none"])
 
     def test_other_foldings_than_were_recorded(self):
-        content = (CASED / "15.0" / FOLDING).read_bytes()
-        path = self.put("15.0")
-        base = self.base("others", "15.0")
-        self.assertEqual(self.recorded(base), [f"15.0|{digest_of('15.0')}"])
+        content = (CASED / "14.0" / FOLDING).read_bytes()
+        path = self.put("14.0")
+        base = self.base("others", "14.0")
+        self.assertEqual(self.recorded(base), [f"14.0|{digest_of('14.0')}"])
         for other in (content + b"# the same\n", b"", content[:1_000], (CASED / "13.0" / FOLDING).read_bytes()):
             path.write_bytes(other)
             self.without(base, "is not the one that this database recorded")
             if other.startswith(content):
-                self.assertIn("is not the one that was recorded", self.refused("55000", "SELECT npss_raise('15.0')", base))
-                self.assertEqual(self.server.sql("SELECT * FROM npss_ready('15.0')", base), 'f|its CaseFolding.txt is not the one that this database recorded as "15.0", or is not here')
+                self.assertIn("is not the one that was recorded", self.refused("55000", "SELECT npss_raise('14.0')", base))
+                self.assertEqual(self.server.sql("SELECT * FROM npss_ready('14.0')", base), 'f|its CaseFolding.txt is not the one that this database recorded as "14.0", or is not here')
         path.unlink()
         for make in (path.mkdir, lambda: os.mkfifo(path)):
             make()
             self.without(base, "is not the one that this database recorded, or is not here")
             (path.rmdir if path.is_dir() else path.unlink)()
         self.without(base, "is not the one that this database recorded, or is not here")
-        self.assertIn("is not the one that was recorded, or is not here", self.refused("55000", "SELECT npss_raise('15.0')", base))
-        self.assertEqual(self.server.sql("SELECT ready FROM npss_ready('15.0')", base), "f")
+        self.assertIn("is not the one that was recorded, or is not here", self.refused("55000", "SELECT npss_raise('14.0')", base))
+        self.assertEqual(self.server.sql("SELECT ready FROM npss_ready('14.0')", base), "f")
         # No version is audited against foldings that aren't here.
         copied(self.versions, {"next": CASED / "15.0"})
         self.addCleanup(shutil.rmtree, self.versions / "next")
@@ -161,7 +161,7 @@ class Foldings(Apart):
         self.put("15.0")
         self.put("14.0")
         for version in ("0.2", "0.3"):
-            base = self.base("earlier")
+            base = self.base("earlier" + version.replace(".", "_"))
             self.server.sql(f"SET npss.version = '14.0'; CREATE EXTENSION npss VERSION '{version}'", base)
             # The library serves the SQL of before, which knows no foldings.
             self.assertEqual(self.server.sql(f"SELECT npss_raise('15.0'), npss_nfc('{MARKED}')", base), "15.0|\u1ead")

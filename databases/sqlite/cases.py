@@ -9,6 +9,7 @@ from pathlib import Path
 
 sys.path.append(str(Path(__file__).resolve().parent.parent))
 
+import fixture_rows
 from fixture_rows import FILES, FOLDING
 
 EXTENSION, FOLDER = sys.argv[1], Path(sys.argv[2])

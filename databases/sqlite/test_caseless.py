@@ -6,8 +6,7 @@ import tempfile
 import unicodedata
 from pathlib import Path
 
-import fixture_rows
-from cases import (CASED_MIDDLE, CASED_NEW, CASED_OLD, FILES, FOLDING, MARKED, MIDDLE, NEW, NEW_COUNT, OLD, YOUNG, Case)
+from cases import CASED_MIDDLE, CASED_NEW, CASED_OLD, FILES, FOLDING, MARKED, MIDDLE, NEW, NEW_COUNT, OLD, Case, fixture_rows
 
 # How the extension made the record before it knew foldings.
 OLDER_RECORD = """CREATE TABLE npss_record (one INTEGER PRIMARY KEY CHECK (one = 1), assigned INTEGER NOT NULL, data BLOB NOT NULL, exclusions BLOB NOT NULL)"""
@@ -185,11 +184,11 @@ class Foldings(Folded):
             base.execute("SELECT npss_raise(?)", (folder,))
             base.execute("ROLLBACK")
             self.assertEqual(len(self.columns(base)), 4)
-            self.refused("not assigned", base, "SELECT npss_nfc(?)", YOUNG)
+            self.refused("not assigned", base, "SELECT npss_nfc(?)", CAPITAL)
             base.execute("SELECT npss_raise(?)", (folder,))
             self.assertEqual(self.columns(base), ["one", "assigned", "data", "exclusions", "folding"])
             for one in (base, beside):
-                self.assertEqual(self.asked(one, "npss_nfc(?)", YOUNG), YOUNG)
+                self.assertEqual(self.asked(one, "npss_nfc(?)", CAPITAL), CAPITAL)
                 if told:
                     self.assertEqual(self.asked(one, "npss_caseless_key('A')"), told)
                 else:
