@@ -44,7 +44,7 @@ class Extension(Case):
         self.assertLessEqual({"0.2", *released()}, set(earlier()))
         fresh = self.base("fresh", "13.0")
         for version in earlier():
-            base = self.base("older")
+            base = self.base("older" + version.replace(".", "_"))
             self.server.sql(f"""SET npss.version = '13.0'; CREATE EXTENSION npss VERSION '{version}'; CREATE EXTENSION amcheck;
                 CREATE TABLE account (name text, key text COLLATE "C" GENERATED ALWAYS AS (npss_nfkc(name)) STORED UNIQUE, sure npss_name DEFAULT 'a');
                 CREATE UNIQUE INDEX account_name ON account (npss_nfd(name) COLLATE "C"); INSERT INTO account VALUES ('{MARKED}'), ('\ufb01');
