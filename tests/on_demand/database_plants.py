@@ -147,7 +147,7 @@ PLANTS = {
     "a raise takes other foldings than were recorded": (RAISE, "\t\tstrcmp(recorded->folding, fresh->folding) != 0)\n", "\t\tfalse)\n", "Foldings"),
     "foldings are replaced": (FOLDING, "return folding[0] == '\\0' && !is_kept_in", "return !is_kept_in", "Foldings"),
     "foldings come with other changes": (FOLDING, "if (column != FOLDING_COLUMN && !is_kept_in", "if (column > FOLDING_COLUMN && !is_kept_in", "Foldings"),
-    "foldings are recorded that are not here": (FOLDING, " || !is_here(call->tg_newtuple, shape))", ")", "Foldings"),
+    "foldings are recorded that are not here": (FOLDING, "digest) == 0 && strcmp(version->folding, folding) == 0;", "digest) == 0;", "Foldings"),
     "any row gets foldings later": (FOLDING, "if (rows == NIL || strcmp(((Row *) linitial(rows))->digest, digest) != 0 ||", "if (rows == NIL || digest[0] == '\\0' ||", "Foldings"),
     "foldings never come later": (RAISE, "\t\trecord_folding(relation, fresh);", "\t\t;", "Foldings"),
     "foldings come under any name": (RAISE, "\telse if (is_in_force &&", "\tif (is_in_force &&", "Foldings"),
