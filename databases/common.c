@@ -10,7 +10,7 @@
 
 #define COUNT(array) (sizeof(array) / sizeof *(array))
 
-const char *const file_names[FILE_COUNT] = {"UnicodeData.txt", "CompositionExclusions.txt"};
+const char *const file_names[FILE_COUNT] = {"UnicodeData.txt", "CompositionExclusions.txt", "CaseFolding.txt"};
 
 /* ---- files */
 
@@ -49,7 +49,18 @@ void put_digested(uint8_t *room, const bytes files[FILE_COUNT]) {
 /* ---- versions */
 
 npss_answer open_files(npss_handle *handle, const bytes files[FILE_COUNT]) {
-    return npss_open(handle, files[DATA_FILE].at, files[DATA_FILE].length, files[EXCLUSIONS_FILE].at, files[EXCLUSIONS_FILE].length);
+    const bytes *data = &files[DATA_FILE], *exclusions = &files[EXCLUSIONS_FILE], *folding = &files[FOLDING_FILE];
+    if (!folding->at) return npss_open(handle, data->at, data->length, exclusions->at, exclusions->length);
+    return npss_open_caseless(handle, data->at, data->length, exclusions->at, exclusions->length, folding->at, folding->length);
+}
+
+bool has_foldings(npss_handle *handle) {
+    uint8_t text[1] = {0}, room[1];
+    return handle->is_open && npss_caseless_key(handle, NPSS_NFC, text, 0, room, sizeof room).status != NPSS_NO_FOLDING;
+}
+
+npss_answer keeps_keys(npss_handle *older, npss_handle *newer, bool caseless) {
+    return caseless ? npss_caseless_extends(older, newer) : npss_extends(older, newer);
 }
 
 static const struct {
@@ -88,6 +99,11 @@ static npss_name known(npss_name name) {
     return name.text[0] != '\0' ? name : unknown;
 }
 
+/* The name of a file by its number from 1. */
+static const char *file_numbered(uint32_t number) {
+    return number - 1 < FILE_COUNT ? file_names[number - 1] : "unknown";
+}
+
 npss_name break_name(npss_answer answer) {
     return known(npss_break_name(answer.fault));
 }
@@ -104,8 +120,14 @@ void put_fault(char *room, npss_answer answer) {
     case NPSS_TABLES:
         snprintf(room, FAULT_SIZE, "Both files together: %s at code point U+%04X", fault.text, (unsigned)answer.code);
         break;
+    case NPSS_FOLDING:
+        snprintf(room, FAULT_SIZE, "%s, line %llu: %s", file_names[FOLDING_FILE], (unsigned long long)answer.place, fault.text);
+        break;
+    case NPSS_FOLDINGS:
+        snprintf(room, FAULT_SIZE, "The three files together: %s at code point U+%04X", fault.text, (unsigned)answer.code);
+        break;
     case NPSS_TOO_LARGE:
-        snprintf(room, FAULT_SIZE, "%s has more than %d bytes", answer.fault == 1 ? file_names[DATA_FILE] : second, MOST_OF_A_FILE);
+        snprintf(room, FAULT_SIZE, "%s has more than %d bytes", file_numbered(answer.fault), MOST_OF_A_FILE);
         break;
     default:
         snprintf(room, FAULT_SIZE, "the library answered %u", (unsigned)answer.status);

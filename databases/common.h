@@ -6,8 +6,9 @@
 
 #include <npss.h>
 
-/* The files of a version, in the order in which npss_open takes them. */
-enum { DATA_FILE, EXCLUSIONS_FILE, FILE_COUNT };
+/* The files of a version, in the order in which npss_open_caseless takes them. A version may lack the last one: then it has no
+ * bytes, and makes no caseless keys. */
+enum { DATA_FILE, EXCLUSIONS_FILE, FOLDING_FILE, FILE_COUNT };
 extern const char *const file_names[FILE_COUNT];
 
 /* The most bytes of a file, and how one is opened: a pipe or a device is not waited for. */
@@ -18,7 +19,7 @@ extern const char *const file_names[FILE_COUNT];
 #define FAULT_SIZE 128
 
 typedef struct bytes {
-    const uint8_t *at;
+    const uint8_t *at; /* NULL where a file isn't there */
     size_t length;
 } bytes;
 
@@ -32,13 +33,21 @@ bool measure_file(int file, size_t *length);
 /* Reads so many bytes of an open file into a room. Whether it has them. */
 bool read_file(int file, uint8_t *room, size_t length);
 
-/* How many bytes are digested for the files of a version, and puts them into a room: the length of the first file in eight bytes
- * from the lowest, the first file, the second. The digest is the SHA-256 of these. */
+/* How many bytes are digested for the first two files of a version, and puts them into a room: the length of the first file in
+ * eight bytes from the lowest, the first file, the second. The digest is the SHA-256 of these. That of CaseFolding.txt is one of
+ * its own, the SHA-256 of its bytes. */
 size_t digested_size(const bytes files[FILE_COUNT]);
 void put_digested(uint8_t *room, const bytes files[FILE_COUNT]);
 
-/* Opens a handle on the version that the files make: what npss_open answers. */
+/* Opens a handle on the version that the files make: what npss_open answers, or npss_open_caseless where there are three. */
 npss_answer open_files(npss_handle *handle, const bytes files[FILE_COUNT]);
+
+/* Whether a handle is open, and was opened with CaseFolding.txt. */
+bool has_foldings(npss_handle *handle);
+
+/* Whether keys that are stored under older tables stay keys under newer ones, where `caseless` caseless keys too: what
+ * npss_extends answers, or npss_caseless_extends. NO_FOLDING where tables lack foldings that count. */
+npss_answer keeps_keys(npss_handle *older, npss_handle *newer, bool caseless);
 
 /* Whether each text of ASCII is its own key under each form. */
 bool keeps_ascii(npss_handle *handle);
@@ -46,10 +55,10 @@ bool keeps_ascii(npss_handle *handle);
 /* The form that a word names, in letters of either case; 0 where it names none. */
 uint8_t form_named(const char *word, size_t length);
 
-/* The name of what a newer version breaks, as an answer of npss_extends tells it. */
+/* The name of what a newer version breaks, as an answer of npss_extends or npss_caseless_extends tells it. */
 npss_name break_name(npss_answer answer);
 
-/* Puts into a room of FAULT_SIZE bytes why files make no version, by an answer of npss_open that isn't done. */
+/* Puts into a room of FAULT_SIZE bytes why files make no version, by an answer of open_files that isn't done. */
 void put_fault(char *room, npss_answer answer);
 
 #endif

@@ -134,6 +134,16 @@ def cut_exclusions(exclusions, kept):
                    if code in kept)
 
 
+def cut_foldings(folding, kept):
+    """The text of CaseFolding.txt for the code points of the set that fold to some of the set."""
+    lines = []
+    for line in contents(folding):
+        code, _, mapping = line.split(";")[:3]
+        if {int(word, 16) for word in (code, *mapping.split())} <= kept:
+            lines.append(f"{line}\n")
+    return "".join(lines)
+
+
 def write_cut(files, newest, folder):
     """Writes a version of that age into a folder: the names of its two files, and the set of the
     code points that DerivedAge.txt gives it."""

@@ -12,19 +12,26 @@ from pathlib import Path
 
 from server import Server, Session, SqlError
 
+sys.path.append(str(Path(__file__).resolve().parent.parent))
+
+import fixture_rows
+from fixture_rows import FILES, FOLDING
+
 PREFIX, VERSIONS, FIXTURES = (Path(word).resolve() for word in sys.argv[1:4])
-FILES = ("UnicodeData.txt", "CompositionExclusions.txt")
+# The same versions with CaseFolding.txt.
+CASED = VERSIONS / "caseless"
 # New in 14.0 and in 15.0.
 YOUNG, YOUNGEST = "\u1dfa", "\U0001e08f"
 MARKED = "a\u0302\u0323"
 
 
 def copied(to, names):
-    """A folder of versions, each copied from a folder, for the user of the servers to read."""
+    """A folder of versions, each copied from a folder with two files or three, for the user of the servers to read."""
     for name, folder in names.items():
         (to / name).mkdir(parents=True)
-        for file in FILES:
-            shutil.copy(folder / file, to / name / file)
+        for file in (*FILES, FOLDING):
+            if (folder / file).exists():
+                shutil.copy(folder / file, to / name / file)
     return to
 
 
@@ -34,12 +41,13 @@ class Case(unittest.TestCase):
     room = programs = None  # test_postgresql.py sets them: a folder, and where the programs of PostgreSQL are
     settings = ""
     labels = ("13.0", "14.0", "15.0")
+    source = VERSIONS
 
     @classmethod
     def setUpClass(cls):
         cls.folder = Path(tempfile.mkdtemp(dir=cls.room))
         os.chmod(cls.folder, 0o755)
-        cls.versions = copied(cls.folder / "versions", {label: VERSIONS / label for label in cls.labels})
+        cls.versions = copied(cls.folder / "versions", {label: cls.source / label for label in cls.labels})
         cls.more_versions()
         cls.server = Server(cls.programs, cls.folder / "server", cls.versions, cls.settings).create().start()
 

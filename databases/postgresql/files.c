@@ -79,15 +79,18 @@ labels_in_folder(Failure *failure)
 
 /* ---------- the files of a version */
 
-/* Reads a file of a version into palloc'd memory. */
-static bool
-read_named(const char *label, const char *name, Bytes *bytes, Failure *failure)
+/* Reads a file of a version into palloc'd memory.  That of foldings may not be there. */
+bool
+read_named(const char *label, int which, Bytes *bytes, Failure *failure)
 {
+	const char *name = file_names[which];
 	char	   *path = psprintf("%s/%s/%s", npss_folder(), label, name);
 	int			file = OpenTransientFile(path, OPEN_A_FILE);
 	uint8	   *room;
 	bool		is_whole;
 
+	if (file < 0 && which == FOLDING_FILE && errno == ENOENT)
+		return true;
 	if (file < 0)
 	{
 		int			sqlstate = errno == EACCES || errno == EPERM ? ERRCODE_INSUFFICIENT_PRIVILEGE : ERRCODE_UNDEFINED_FILE;
@@ -111,26 +114,13 @@ read_named(const char *label, const char *name, Bytes *bytes, Failure *failure)
 	return true;
 }
 
-/* Reads the files of a version into palloc'd memory. */
-bool
-read_files(const char *label, Bytes *files, Failure *failure)
+/* The digest of bytes behind a varlena's head, made by the function that SQL has, which all versions of PostgreSQL have alike. */
+static void
+make_sha256(char *digest, bytea *all)
 {
-	for (int i = 0; i < FILE_COUNT; i++)
-		if (!read_named(label, file_names[i], &files[i], failure))
-			return false;
-	return true;
-}
-
-/* The digest of the files, made by the function that SQL has, which all versions of PostgreSQL have alike. */
-void
-make_digest(char *digest, const Bytes *files)
-{
-	bytea	   *all = palloc(VARHDRSZ + digested_size(files));
 	ResourceOwner before = CurrentResourceOwner;
 	bytea	   *made;
 
-	SET_VARSIZE(all, VARHDRSZ + digested_size(files));
-	put_digested((uint8 *) VARDATA(all), files);
 	if (before == NULL)			/* in the postmaster, where it would crash */
 		CurrentResourceOwner = ResourceOwnerCreate(NULL, "npss");
 	made = DatumGetByteaPP(DirectFunctionCall1(sha256_bytea, PointerGetDatum(all)));
@@ -145,4 +135,26 @@ make_digest(char *digest, const Bytes *files)
 	hex_encode(VARDATA_ANY(made), (DIGEST_SIZE - 1) / 2, digest);
 	digest[DIGEST_SIZE - 1] = '\0';
 	pfree(all);
+}
+
+/* The digest of the first two files. */
+void
+make_digest(char *digest, const Bytes *files)
+{
+	bytea	   *all = palloc(VARHDRSZ + digested_size(files));
+
+	SET_VARSIZE(all, VARHDRSZ + digested_size(files));
+	put_digested((uint8 *) VARDATA(all), files);
+	make_sha256(digest, all);
+}
+
+/* The digest of the third file; empty where it isn't there. */
+void
+make_folding_digest(char *digest, const Bytes *files)
+{
+	const Bytes *folding = &files[FOLDING_FILE];
+
+	digest[0] = '\0';
+	if (folding->at != NULL)
+		make_sha256(digest, (bytea *) cstring_to_text_with_len((const char *) folding->at, (int) folding->length));
 }

@@ -88,16 +88,6 @@ text_of(StringInfo made)
 
 /* ---------- making */
 
-typedef npss_answer (*Maker) (npss_handle *, uint8_t, const uint8_t *, size_t, uint8_t *, size_t);
-
-/* What is wanted of a text. */
-typedef struct Wanted
-{
-	Maker		make;			/* npss_key or npss_normalize */
-	uint8		form;
-	bool		may_lack;		/* NULL in place of the error of a code point that is not assigned */
-} Wanted;
-
 /* A short text: into a room, and where that is too small into a text of the length that was told. */
 static text *
 make_short(Version *version, const Wanted *wanted, Bytes input, npss_answer *answer)
@@ -125,10 +115,21 @@ make_once(Version *version, const Wanted *wanted, Bytes input, npss_answer *answ
 
 	if (input.length <= LONG_TEXT)
 		return make_short(version, wanted, input, answer);
+	if (wanted->make == npss_caseless_key)
+		return make_long_caseless(version, wanted->form, input, answer);
 	*answer = make_long(version, wanted->form, input, &made);
 	if (answer->status == NPSS_UNASSIGNED && wanted->make == npss_normalize)
 		answer->status = NPSS_DONE;	/* it is the normal form, which was asked for */
 	return answer->status == NPSS_DONE ? text_of(&made) : NULL;
+}
+
+/* The version for what is wanted.  What is an error for a key is followed before it is told. */
+static Version *
+version_for(FunctionCallInfo fcinfo, Maker make)
+{
+	if (make == npss_caseless_key)
+		return version_with_foldings(fcinfo);
+	return make == npss_key ? version_in_force(fcinfo) : version_for_question(fcinfo);
 }
 
 /* What is wanted of a text; NULL where it has no key and may, and in ANALYZE where there are no tables, or older ones. */
@@ -142,15 +143,17 @@ make(FunctionCallInfo fcinfo, Wanted wanted)
 			   *newer;
 	text	   *made;
 
-	if (needs_no_tables(fcinfo, (const char *) input.at, input.length))
+	if (wanted.make != npss_caseless_key && needs_no_tables(fcinfo, (const char *) input.at, input.length))
 		return given;
-	version = wanted.make == npss_key ? version_in_force(fcinfo) : version_for_question(fcinfo);
+	version = version_for(fcinfo, wanted.make);
 	if (version == NULL)
 		return NULL;
 	made = make_once(version, &wanted, input, &answer);
 	if (made == NULL && answer.status == NPSS_UNASSIGNED)
 	{
 		newer = wanted.may_lack ? version_for_question(fcinfo) : newer_version(fcinfo, version);
+		if (newer != NULL && newer != version && wanted.make == npss_caseless_key)
+			newer = version_with_foldings(fcinfo);
 		if (newer != NULL && newer != version)
 			made = make_once(version = newer, &wanted, input, &answer);
 	}
@@ -159,7 +162,7 @@ make(FunctionCallInfo fcinfo, Wanted wanted)
 	return made;
 }
 
-static Datum
+Datum
 made_or_null(FunctionCallInfo fcinfo, Wanted wanted)
 {
 	text	   *made = make(fcinfo, wanted);

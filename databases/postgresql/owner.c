@@ -34,16 +34,27 @@ static Version *
 opened(const char *label)
 {
 	Failure		failure;
-	Version    *version = open_version(label, &failure);
+	Version    *version = open_version(label, NULL, &failure);
 
 	if (version == NULL)
 		report(ERROR, &failure);
 	return version;
 }
 
+/* What an audit found: `extends`, the first break, or that foldings are missing. */
+static text *
+found(npss_answer answer)
+{
+	if (answer.status == NPSS_DONE)
+		return cstring_to_text("extends");
+	if (answer.status == NPSS_NO_FOLDING)
+		return cstring_to_text(psprintf("no %s", file_names[FOLDING_FILE]));
+	return cstring_to_text(psprintf("%s %04X", break_name(answer).text, answer.code));
+}
+
 /*
  * What raising to a label would break: `extends`, or the first break.  Changes nothing.  Where an earlier version than that in
- * force serves, it is audited against that one, which is told.
+ * force serves, it is audited against that one, which is told; and so it is where the recorded foldings are not here.
  */
 PG_FUNCTION_INFO_V1(npss_pg_audit);
 Datum
@@ -57,12 +68,38 @@ npss_pg_audit(PG_FUNCTION_ARGS)
 		ereport(WARNING,
 				(errmsg("npss: audited against Unicode version \"%s\", not against \"%s\", which is in force and whose files are not here",
 						now->label, label_not_here())));
+	if (now != NULL && lacks_foldings())
+		ereport(WARNING, (errmsg("npss: audited without the recorded %s of Unicode version \"%s\", which is not here",
+								 file_names[FOLDING_FILE], now->label)));
 	if (now != NULL)
-		answer = npss_extends(&now->handle, &then->handle);
+		answer = keeps_keys(&now->handle, &then->handle, folds());
 	shut_version(then);
-	if (answer.status == NPSS_DONE)
-		PG_RETURN_TEXT_P(cstring_to_text("extends"));
-	PG_RETURN_TEXT_P(cstring_to_text(psprintf("%s %04X", break_name(answer).text, answer.code)));
+	PG_RETURN_TEXT_P(found(answer));
+}
+
+/* Why the files of a version are not those that are recorded under its label, or lack foldings; NULL where they are right. */
+static const char *
+why_unlike(const List *rows, const Version *version)
+{
+	const Row  *force = linitial(rows);
+	bool		is_recorded = false;
+	ListCell   *at;
+
+	foreach(at, rows)
+	{
+		const Row  *row = lfirst(at);
+
+		if (strcmp(row->label, version->label) != 0)
+			continue;
+		is_recorded = true;
+		if (strcmp(row->digest, version->digest) != 0)
+			return psprintf("the files are not those that this database recorded as \"%s\"", row->label);
+		if (row->folding[0] != '\0' && strcmp(row->folding, version->folding) != 0)
+			return psprintf("its %s is not the one that this database recorded as \"%s\", or is not here", file_names[FOLDING_FILE], row->label);
+	}
+	if (!is_recorded && force->folding[0] != '\0' && version->folding[0] == '\0')
+		return psprintf("version %s has no %s, which version %s has", version->label, file_names[FOLDING_FILE], force->label);
+	return NULL;
 }
 
 /* Whether a version can be raised to, or is recorded, on this very server: its files are here, whole and right. */
@@ -73,22 +110,16 @@ npss_pg_ready(PG_FUNCTION_ARGS)
 	char	   *label = text_to_cstring(PG_GETARG_TEXT_PP(0));
 	List	   *rows = rows_beside(fcinfo->flinfo->fn_oid);
 	Failure		failure;
-	Version    *version = open_version(label, &failure);
-	const char *why = NULL;
+	Version    *version = open_version(label, NULL, &failure);
+	const char *why;
 	TupleDesc	shape;
 	Datum		values[2];
 	bool		nulls[2] = {false, false};
-	ListCell   *at;
 
-	if (version == NULL)
+	if (version != NULL)
+		why = why_unlike(rows, version);
+	else
 		why = failure.detail != NULL ? psprintf("%s: %s", failure.message, failure.detail) : failure.message;
-	foreach(at, rows)
-	{
-		Row		   *row = lfirst(at);
-
-		if (version != NULL && strcmp(row->label, label) == 0 && strcmp(row->digest, version->digest) != 0)
-			why = psprintf("the files are not those that this database recorded as \"%s\"", label);
-	}
 	if (version != NULL)
 		shut_version(version);
 	if (get_call_result_type(fcinfo, NULL, &shape) != TYPEFUNC_COMPOSITE)
@@ -115,7 +146,7 @@ npss_pg_newest(PG_FUNCTION_ARGS)
 	labels = labels_in_folder(&failure);
 	foreach(at, labels)
 	{
-		Version    *version = open_version(lfirst(at), &failure);
+		Version    *version = open_version(lfirst(at), NULL, &failure);
 
 		if (version == NULL)
 		{

@@ -10,7 +10,7 @@
 #include "miscadmin.h"
 #include "utils/builtins.h"
 
-static bool
+bool
 is_same(text *one, text *other)
 {
 	Bytes		left = bytes_of(one),
@@ -71,7 +71,7 @@ piece_of(Bytes input)
 }
 
 /* The first code point of a text that is not assigned. */
-static npss_answer
+npss_answer
 first_unassigned(Version *version, Bytes input)
 {
 	npss_answer answer = {0};

@@ -28,14 +28,24 @@ static struct
 	Oid			table;			/* npss_record, where it was read and has not changed since; else invalid */
 	bool		ascii;			/* texts of ASCII are their own keys under the version in force */
 	bool		lags;			/* the files of the version in force were not here: an earlier one serves */
+	bool		folds;			/* what serves was recorded with foldings, and has them */
+	bool		unfolded;		/* what serves was recorded with foldings, which were not here */
 	TimestampTz looked;			/* the beginning of the statement that last looked whether they are here by now */
 	Version    *version;		/* what serves; NULL where no text has wanted it yet */
 	char		label[LABEL_SIZE];	/* of the version in force */
+	char		folding[DIGEST_SIZE];	/* of what serves, as recorded; empty where none is */
 }			known;
 
 static Oid	watched = InvalidOid;	/* the table whose changes are listened to */
 
 /* ---------- the rows */
+
+/* Of rows with as many code points one with foldings comes first: caseless keys are made by it. */
+static int
+by_folding(const Row *left, const Row *right)
+{
+	return (right->folding[0] != '\0') - (left->folding[0] != '\0');
+}
 
 static int
 by_count(const ListCell *left, const ListCell *right)
@@ -43,7 +53,17 @@ by_count(const ListCell *left, const ListCell *right)
 	int64		a = ((Row *) lfirst(left))->assigned,
 				b = ((Row *) lfirst(right))->assigned;
 
-	return a > b ? -1 : a < b;
+	return a > b ? -1 : a < b ? 1 : by_folding(lfirst(left), lfirst(right));
+}
+
+/* The text of a column of a row; the empty one where it is NULL, or where the SQL of before has no such column. */
+void
+put_column(HeapTuple tuple, TupleDesc shape, int column, char *room, size_t size)
+{
+	bool		is_null = true;
+	Datum		value = column <= shape->natts ? SPI_getbinval(tuple, shape, column, &is_null) : (Datum) 0;
+
+	strlcpy(room, is_null ? "" : TextDatumGetCString(value), size);
 }
 
 /*
@@ -63,10 +83,11 @@ read_rows(Relation relation, Snapshot snapshot)
 		Row		   *row = palloc(sizeof(Row));
 		bool		is_null;
 
-		strlcpy(row->label, TextDatumGetCString(SPI_getbinval(tuple, shape, 1, &is_null)), LABEL_SIZE);
-		strlcpy(row->digest, TextDatumGetCString(SPI_getbinval(tuple, shape, 2, &is_null)), DIGEST_SIZE);
-		row->assigned = DatumGetInt64(SPI_getbinval(tuple, shape, 3, &is_null));
-		row->ascii = DatumGetBool(SPI_getbinval(tuple, shape, 4, &is_null));
+		put_column(tuple, shape, LABEL_COLUMN, row->label, LABEL_SIZE);
+		put_column(tuple, shape, DIGEST_COLUMN, row->digest, DIGEST_SIZE);
+		put_column(tuple, shape, FOLDING_COLUMN, row->folding, DIGEST_SIZE);
+		row->assigned = DatumGetInt64(SPI_getbinval(tuple, shape, ASSIGNED_COLUMN, &is_null));
+		row->ascii = DatumGetBool(SPI_getbinval(tuple, shape, ASCII_COLUMN, &is_null));
 		rows = lappend(rows, row);
 	}
 	systable_endscan(scan);
@@ -108,13 +129,16 @@ rows_beside(Oid function)
 
 /* ---------- the version in force */
 
-/* The version of a row, where its files have the digest that was recorded; it is kept.  NULL where it fails. */
+/*
+ * The version of a row, where its files have the digest that was recorded; it is kept.  NULL where it fails.  It has the
+ * recorded foldings where these are here.
+ */
 Version *
 open_recorded(const Row *row, Failure *failure)
 {
-	Version    *version = find_version(row->digest);
+	Version    *version = find_version(row->digest, row->folding);
 
-	if (version != NULL || (version = open_version(row->label, failure)) == NULL)
+	if (version != NULL || (version = open_version(row->label, row->folding, failure)) == NULL)
 		return version;
 	if (strcmp(version->digest, row->digest) == 0)
 	{
@@ -144,6 +168,16 @@ is_analyzing(void)
 #endif
 }
 
+/* Takes note of what serves, and whether it makes caseless keys. */
+static void
+serve(Version *version, const Row *row)
+{
+	known.version = version;
+	strlcpy(known.folding, row->folding, DIGEST_SIZE);
+	known.folds = row->folding[0] != '\0' && strcmp(version->folding, row->folding) == 0;
+	known.unfolded = row->folding[0] != '\0' && !known.folds;
+}
+
 /*
  * Opens the version in force.  Where its files are not here, as on a standby that got them late, the newest recorded one
  * whose files are here serves, which is told as loudly as `level` says: its keys are the same, but it refuses more.  Where
@@ -161,7 +195,10 @@ open_in_force(Oid function, int level)
 	{
 		version = open_recorded(lfirst(at), &failure);
 		if (version != NULL)
+		{
+			serve(version, lfirst(at));
 			break;
+		}
 		report(lnext(rows, at) != NULL ? level : is_analyzing() ? WARNING : ERROR, &failure);
 	}
 	if (version == NULL)
@@ -171,7 +208,6 @@ open_in_force(Oid function, int level)
 	}
 	known.lags = version->assigned < ((Row *) linitial(rows))->assigned;
 	known.looked = GetCurrentStatementStartTimestamp();
-	known.version = version;
 	list_free_deep(rows);
 	shut_versions_but(version);
 	return version;
@@ -209,6 +245,63 @@ Version *
 newer_version(FunctionCallInfo call, Version *version)
 {
 	return likely(!known.lags) ? version : followed(call, WARNING);
+}
+
+/* Whether what serves makes caseless keys. */
+bool
+folds(void)
+{
+	return known.folds;
+}
+
+/* Whether what serves was recorded with foldings, which were not here. */
+bool
+lacks_foldings(void)
+{
+	return known.unfolded;
+}
+
+/* Tells why what serves makes no caseless key, as loudly as `level` says. */
+static void
+report_unfolded(int level)
+{
+	if (known.unfolded)
+		ereport(level,
+				(errcode(ERRCODE_OBJECT_NOT_IN_PREREQUISITE_STATE),
+				 errmsg("npss: the %s of Unicode version \"%s\" is not the one that this database recorded, or is not here",
+						file_names[FOLDING_FILE], known.version->label),
+				 errdetail("The recorded digest is %s.", known.folding),
+				 errhint("Put the recorded file back.")));
+	else
+		ereport(level,
+				(errcode(ERRCODE_OBJECT_NOT_IN_PREREQUISITE_STATE),
+				 errmsg("Unicode version \"%s\" was recorded without %s, and makes no caseless keys",
+						known.version->label, file_names[FOLDING_FILE]),
+				 errhint("Put %s into its folder: npss_raise('%s') takes it.", file_names[FOLDING_FILE], known.label)));
+}
+
+/*
+ * The version in force, for a caseless key; an error where it has no foldings.  NULL as version_in_force, and in ANALYZE, which
+ * goes on without.  Where the recorded foldings were not here, it is looked once in a statement whether they are by now.
+ */
+Version *
+version_with_foldings(FunctionCallInfo call)
+{
+	static TimestampTz told = 0;
+	Version    *version = version_in_force(call);
+
+	if (version == NULL || likely(known.folds))
+		return version;
+	if (known.unfolded && known.looked != GetCurrentStatementStartTimestamp())
+		version = open_in_force(call->flinfo->fn_oid, WARNING);
+	if (version == NULL || known.folds)
+		return version;
+	if (!is_analyzing())
+		report_unfolded(ERROR);
+	if (told != GetCurrentStatementStartTimestamp())
+		report_unfolded(WARNING);
+	told = GetCurrentStatementStartTimestamp();
+	return NULL;
 }
 
 /* The label of the version in force, where its files are not here and an earlier version serves; else NULL. */

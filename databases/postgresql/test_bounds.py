@@ -7,12 +7,16 @@ import subprocess
 import unittest
 from pathlib import Path
 
-from cases import MARKED, YOUNG, Case
+from cases import CASED, FOLDING, MARKED, YOUNG, Case, copied
 from server import own, run, words_as_user
 
 
 class Bounds(Case):
     """Time and memory that run out."""
+
+    @classmethod
+    def more_versions(cls):
+        copied(cls.versions, {"cased": CASED / "15.0"})
 
     def test_a_long_text_ends_with_its_statement(self):
         base = self.base("bounds", "15.0")
@@ -20,6 +24,14 @@ class Bounds(Case):
                         f"INSERT INTO long VALUES (repeat('{MARKED}', 36000000))", base)
         session = self.session(base)
         for call in ("npss_nfc(body)", "npss_normalize(body)", "npss_is_normalized(body)", "npss_equivalent(body, body)", "npss_equivalent('a', body)"):
+            self.ends_early(session, f"SELECT {call} IS NULL FROM long")
+
+    def test_a_long_caseless_key_ends_with_its_statement(self):
+        base = self.base("caseless", "cased")
+        self.server.sql("CREATE TABLE long (body text); ALTER TABLE long ALTER body SET STORAGE EXTERNAL;"
+                        f"INSERT INTO long VALUES (repeat('\u1e9e{MARKED}', 4000000))", base)
+        session = self.session(base)
+        for call in ("npss_caseless_nfc(body)", "npss_caseless_nfkd(body)", "npss_caseless_match(body, 'a')", "npss_caseless_match('a', body, 'nfkc')"):
             self.ends_early(session, f"SELECT {call} IS NULL FROM long")
 
     def test_a_comparison_ends_where_one_text_is_long(self):
@@ -135,16 +147,22 @@ class Memory(Case):
 
     @unittest.skipUnless(shutil.which("valgrind"), "valgrind is not here")
     def test_under_valgrind(self):
+        for label in ("14.0", "15.0"):
+            (self.versions / label / FOLDING).write_bytes((CASED / label / FOLDING).read_bytes())
         base = self.base("checked", "13.0")
         self.server.stop()
         statements = [f"SELECT npss_nfc('{MARKED}'), npss_key('\ufb01', 'nfkd'), npss_try_key('{YOUNG}'), npss_is_normalized('{MARKED}')",
                       f"SELECT npss_equivalent('{MARKED}', '\u1ead'), npss_first_unassigned('a{YOUNG}'), npss_normalize('{YOUNG}')",
                       f"SELECT count(*) FROM npss_why('{MARKED}\uac01\ufb01')", f"SELECT npss_nfc('{YOUNG}')", "SELECT npss_audit('15.0')",
-                      "SELECT npss_raise('15.0')", "SELECT npss_raise('13.0')", "SELECT npss_raise('none')", f"SELECT npss_nfc('{YOUNG}')",
+                      "SELECT npss_caseless_nfc('A')", "SELECT npss_raise('15.0')", "SELECT npss_raise('13.0')",
+                      f"SELECT npss_caseless_nfkc('\u2121'), npss_caseless_key('{MARKED}', 'nfd'), npss_try_caseless_key('\ufdd0'), npss_caseless_match('A', 'a')",
+                      "SELECT length(npss_caseless_nfkd(repeat('\u1e9e', 400000)))", "SELECT npss_caseless_match(repeat('\u1e9e', 400000), 'a', 'nfkc')",
+                      "SELECT npss_caseless_nfc(repeat('\u1e9e', 400000) || '\ufdd0')", "SELECT npss_raise('none')", f"SELECT npss_nfc('{YOUNG}')",
                       "SELECT length(npss_nfd(repeat('\u1ead', 400000)))", "SELECT npss_ready('14.0'), npss_ready('none')",
                       "CREATE CAST (bytea AS text) WITHOUT FUNCTION"]
         # Results around the room, and of each remainder of 8 above it, since memory is handed out in eights.
         statements += [f"SELECT length(npss_nfc(repeat('x', {length - 2}) || '\u00eb'))" for length in (*range(65_534, 65_550), 100_000)]
+        statements += [f"SELECT length(npss_caseless_nfc(repeat('X', {length - 2}) || '\u00cb'))" for length in (*range(65_534, 65_550), 100_000)]
         # Streams that end at an error, and versions that end with a call.
         statements += ["SELECT npss_normalize(decode(repeat('61', 1500000) || 'ff', 'hex')::text)", "SELECT npss_audit('14.0')"] * 4
         told = self.folder / "valgrind"

@@ -21,8 +21,14 @@ def released():
             if line.count("--") == 1]
 
 
+def earlier():
+    """All versions of the SQL before the present one, of which a release may have had some."""
+    scripts = (path.stem.split("--") for path in HERE.glob("npss--*.sql"))
+    return sorted({version for _, *versions in scripts for version in versions} - {newest()})
+
+
 class Extension(Case):
-    """From each released version of the SQL to the present one."""
+    """From each earlier version of the SQL to the present one."""
 
     def made(self, base):
         """All that the extension made: its functions with their rights, its types, tables and triggers."""
@@ -34,11 +40,11 @@ class Extension(Case):
             SELECT extversion, extcondition FROM pg_extension WHERE extname = 'npss';
             SELECT tgname, tgenabled, pg_get_triggerdef(oid) FROM pg_trigger WHERE tgrelid = 'npss_record'::regclass ORDER BY 1""", base)
 
-    def test_from_each_released_version(self):
-        self.assertIn("0.2", released())
+    def test_from_each_earlier_version(self):
+        self.assertLessEqual({"0.2", *released()}, set(earlier()))
         fresh = self.base("fresh", "13.0")
-        for version in released():
-            base = self.base("older")
+        for version in earlier():
+            base = self.base("older" + version.replace(".", "_"))
             self.server.sql(f"""SET npss.version = '13.0'; CREATE EXTENSION npss VERSION '{version}'; CREATE EXTENSION amcheck;
                 CREATE TABLE account (name text, key text COLLATE "C" GENERATED ALWAYS AS (npss_nfkc(name)) STORED UNIQUE, sure npss_name DEFAULT 'a');
                 CREATE UNIQUE INDEX account_name ON account (npss_nfd(name) COLLATE "C"); INSERT INTO account VALUES ('{MARKED}'), ('\ufb01');
@@ -55,8 +61,8 @@ class Extension(Case):
             self.assertEqual(self.server.sql("SELECT count(*), count(bt_index_check(indexrelid, true)) FROM pg_index WHERE indrelid = 'account'::regclass", base), "2|2")
             self.assertEqual(self.server.sql("SELECT count(*) FROM account WHERE key = npss_nfkc(name)", base), "4")
 
-    def test_a_dump_of_a_released_version(self):
-        for version in released():
+    def test_a_dump_of_an_earlier_version(self):
+        for version in earlier():
             base = self.base("dumped")
             self.server.sql(f"SET npss.version = '13.0'; CREATE EXTENSION npss VERSION '{version}'; CREATE TABLE account (name text);"
                             f"CREATE UNIQUE INDEX ON account (npss_nfc(name)); INSERT INTO account VALUES ('{MARKED}'); SELECT npss_raise('14.0')", base)

@@ -2,7 +2,7 @@
 
 import re
 
-from cases import FIXTURES, Case
+from cases import CASED, FIXTURES, Case
 
 PAGE = FIXTURES.parent / "docs" / "MOVING.md"
 NAMES, COLLISIONS, NAMELESS = 100_000, 100, 10
@@ -24,6 +24,7 @@ def statements(number, language="sql"):
 
 class Moving(Case):
     labels = ("15.0",)
+    source = CASED
 
     def told(self, text):
         """What statements answer, line by line."""

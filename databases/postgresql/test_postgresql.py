@@ -1,8 +1,8 @@
 #!/usr/bin/env python3
 """test_postgresql.py PREFIX VERSIONS FIXTURES [WORD..]: tests the extension npss in a PostgreSQL of its own.
 
-PREFIX is where ./build-c installed the library. VERSIONS has the folders 13.0, 14.0 and 15.0 with the two files each, and
-FIXTURES the repository's v1 and v2. What SQL can tell stands in sql/ and expected/, and is run first. The words are those of
+PREFIX is where ./build-c installed the library. VERSIONS has the folders 13.0, 14.0 and 15.0 with the two files each, and below
+`caseless` the same three with CaseFolding.txt too; FIXTURES has the repository's v1 and v2. What SQL can tell stands in sql/ and expected/, and is run first. The words are those of
 Python's unittest, as the name of a class. Ends in a line 'N passed, M failed'.
 """
 
@@ -15,7 +15,9 @@ from cases import FILES, FIXTURES, PREFIX, Case, copied
 from server import HERE, LIBRARIES, installed, own, run
 from test_attacks import Attacks, Missing, Preloaded
 from test_bounds import Bounds, Memory
+from test_caseless import Caseless, LongCaseless
 from test_extension import Extension
+from test_foldings import Foldings, FoldingsAway, FoldingsDumped, FoldingsPreloaded
 from test_moving import Moving
 from test_page import Page
 from test_record import Dumps, Ends, Standby, Upgrades

@@ -43,16 +43,41 @@ make_version(void)
 	return version;
 }
 
-/* Fills in a version from its files. */
+/*
+ * Reads the files of a version into palloc'd memory, and digests them: with the foldings that are there where `folding` is NULL;
+ * else with those of that digest alone, where these are there.
+ */
 static bool
-fill_version(Version *version, const char *label, Failure *failure)
+read_files(Version *version, const char *label, const char *folding, Bytes *files, Failure *failure)
 {
-	Bytes		files[FILE_COUNT];
-	npss_answer answer;
+	bool		is_read = false;
 
-	if (!read_files(label, files, failure))
+	if (!read_named(label, DATA_FILE, &files[DATA_FILE], failure) || !read_named(label, EXCLUSIONS_FILE, &files[EXCLUSIONS_FILE], failure))
+		return false;
+	if (folding == NULL || folding[0] != '\0')
+		is_read = read_named(label, FOLDING_FILE, &files[FOLDING_FILE], failure);
+	if (!is_read && folding == NULL)
 		return false;
 	make_digest(version->digest, files);
+	if (is_read)
+		make_folding_digest(version->folding, files);
+	if (folding != NULL && strcmp(version->folding, folding) != 0)
+	{
+		files[FOLDING_FILE].at = NULL;
+		version->folding[0] = '\0';
+	}
+	return true;
+}
+
+/* Fills in a version from its files, as read_files reads them. */
+static bool
+fill_version(Version *version, const char *label, const char *folding, Failure *failure)
+{
+	Bytes		files[FILE_COUNT] = {{0}};
+	npss_answer answer;
+
+	if (!read_files(version, label, folding, files, failure))
+		return false;
 	answer = open_files(&version->handle, files);
 	if (answer.status != NPSS_DONE)
 		return fail_open(failure, label, answer);
@@ -64,10 +89,10 @@ fill_version(Version *version, const char *label, Failure *failure)
 
 /*
  * The version of a label, opened from the folder, in the present memory context: keep_version keeps it.  NULL where it
- * fails.
+ * fails.  It has the foldings that are there where `folding` is NULL; else those of that digest alone, where these are there.
  */
 Version *
-open_version(const char *label, Failure *failure)
+open_version(const char *label, const char *folding, Failure *failure)
 {
 	MemoryContext work,
 				before;
@@ -85,7 +110,7 @@ open_version(const char *label, Failure *failure)
 	version = make_version();
 	work = AllocSetContextCreate(CurrentMemoryContext, "npss files", ALLOCSET_DEFAULT_SIZES);
 	before = MemoryContextSwitchTo(work);
-	filled = fill_version(version, label, failure);
+	filled = fill_version(version, label, folding, failure);
 	MemoryContextSwitchTo(before);
 	if (!filled)
 	{
@@ -99,21 +124,30 @@ open_version(const char *label, Failure *failure)
 	return filled ? version : NULL;
 }
 
-/* An open version of this digest, or NULL. */
+/* An open version of this digest, or NULL; where the digest of foldings isn't empty, one with these. */
 Version *
-find_version(const char *digest)
+find_version(const char *digest, const char *folding)
 {
 	for (Version *version = versions; version != NULL; version = version->next)
-		if (strcmp(version->digest, digest) == 0)
+		if (strcmp(version->digest, digest) == 0 && (folding[0] == '\0' || strcmp(version->folding, folding) == 0))
 			return version;
 	return NULL;
+}
+
+static bool
+is_kept(const Version *asked)
+{
+	for (Version *version = versions; version != NULL; version = version->next)
+		if (version == asked)
+			return true;
+	return false;
 }
 
 /* Keeps a version for the rest of the session. */
 void
 keep_version(Version *version)
 {
-	if (find_version(version->digest) == version)
+	if (is_kept(version))
 		return;
 	MemoryContextSetParent(version->context, TopMemoryContext);
 	version->next = versions;
@@ -124,7 +158,7 @@ keep_version(Version *version)
 void
 shut_version(Version *version)
 {
-	if (find_version(version->digest) != version)
+	if (!is_kept(version))
 		MemoryContextDelete(version->context);
 }
 
@@ -157,11 +191,16 @@ preload_versions(void)
 
 	foreach(at, labels_in_folder(&failure))
 	{
-		Version    *version = open_version(lfirst(at), &failure);
+		Version    *version = open_version(lfirst(at), NULL, &failure);
 
 		if (version == NULL)
+		{
 			report(LOG, &failure);
-		else if (find_version(version->digest) != NULL)
+			version = open_version(lfirst(at), "", &failure);
+		}
+		if (version == NULL)
+			continue;
+		if (find_version(version->digest, version->folding) != NULL)
 			MemoryContextDelete(version->context);
 		else
 		{

@@ -19,12 +19,25 @@ static const char *written_from(sqlite3 *db, int *number) {
     return NULL;
 }
 
-/* What a statement over an attached database tells, whose name stands in it as `%w`: the status, as ask_number. */
-static int ask_attached(sqlite3 *db, const char *form, const char *name, sqlite3_int64 *told) {
-    char *text = sqlite3_mprintf(form, name);
+/* What a statement of sqlite3_mprintf tells: the status, as ask_number. */
+static int ask_made(sqlite3 *db, char *text, sqlite3_int64 *told) {
     int code = text ? ask_number(db, text, told) : SQLITE_NOMEM;
     sqlite3_free(text);
     return code;
+}
+
+/* What a statement over an attached database tells, whose name stands in it as `%w`. */
+static int ask_attached(sqlite3 *db, const char *form, const char *name, sqlite3_int64 *told) {
+    return ask_made(db, sqlite3_mprintf(form, name), told);
+}
+
+/* Whether an attached database records the files of the main one, as ask_number. */
+static int ask_same_files(sqlite3 *db, const char *name, sqlite3_int64 *told) {
+    int main = folding_column(db, "main"), other = folding_column(db, name);
+    if (main != SQLITE_OK && main != SQLITE_ERROR) return main;
+    if (other != SQLITE_OK && other != SQLITE_ERROR) return other;
+    return ask_made(db, sqlite3_mprintf("SELECT a.data = b.data AND a.exclusions = b.exclusions AND %s IS %s FROM main.npss_record AS a, "
+                                        "\"%w\".npss_record AS b", main ? "NULL" : "a.folding", other ? "NULL" : "b.folding", name), told);
 }
 
 /* Sees to it that an attached database records no version, or that of the main database; 0 where an error is set. */
@@ -34,8 +47,7 @@ static int fits(sqlite3_context *call, connection *self, const char *name) {
     if (code == SQLITE_ERROR || code == SQLITE_DONE) return 1; /* there is no such table, or it is empty */
     if (code == SQLITE_ROW && self->is_recorded) {
         told = 0;
-        code = ask_attached(self->db, "SELECT a.data = b.data AND a.exclusions = b.exclusions FROM main.npss_record AS a, "
-                                      "\"%w\".npss_record AS b", name, &told);
+        code = ask_same_files(self->db, name, &told);
         if (code == SQLITE_ROW && told) return 1;
     }
     if (code != SQLITE_ROW) return fail_by_database(call);

@@ -7,14 +7,21 @@ import tempfile
 import unittest
 from pathlib import Path
 
+sys.path.append(str(Path(__file__).resolve().parent.parent))
+
+import fixture_rows
+from fixture_rows import FILES, FOLDING
+
 EXTENSION, FOLDER = sys.argv[1], Path(sys.argv[2])
-OLD, MIDDLE, NEW = (str(FOLDER / version) for version in ("13.0", "14.0", "15.0"))
+LABELS = ("13.0", "14.0", "15.0")
+OLD, MIDDLE, NEW = (str(FOLDER / label) for label in LABELS)
+# The same with CaseFolding.txt.
+CASED_OLD, CASED_MIDDLE, CASED_NEW = (str(FOLDER / "caseless" / label) for label in LABELS)
 # How many code points OLD and NEW assign.
 OLD_COUNT, NEW_COUNT = 283_440, 288_767
 # New in 14.0 and in 15.0.
 YOUNG, YOUNGEST = "\u1df9\u1dfa", "\U0001e08f"
 MARKED = "a\u0302\u0323"
-FILES = ("UnicodeData.txt", "CompositionExclusions.txt")
 
 
 class Case(unittest.TestCase):

@@ -4,7 +4,8 @@
  * together, and nobody swaps the files. npss_raise audits newer files against them first.
  *
  * A key stays the same under each version that extends the one under which it was made; that is proved. So npss_key is
- * deterministic. What a raise changes is which texts are refused. Each call goes by the record as its transaction sees it; it
+ * deterministic. A caseless key stays the same where the foldings are extended too, and npss_raise sees to that. What a raise
+ * changes is which texts are refused. Each call goes by the record as its transaction sees it; it
  * is read again where the file has changed since. */
 #include "npss_sqlite.h"
 
@@ -102,6 +103,7 @@ static void make(sqlite3_context *call, const maker *how, sqlite3_value *given) 
     npss_answer a;
     if (sqlite3_value_type(given) == SQLITE_NULL || !ready(call, self) || !(text = text_of(call, given, &length))) return;
     a = how->make(&self->tables, how->form, text, length, self->room, ROOM);
+    if (!self->is_recorded && how->make == npss_caseless_key && a.status != NPSS_NO_FOLDING) self->folded_own = 1;
     if (a.status == NPSS_DONE) {
         sqlite3_result_text64(call, (char *)self->room, a.length, SQLITE_TRANSIENT, SQLITE_UTF8);
     } else if (a.status == NPSS_NO_ROOM) {
@@ -149,6 +151,34 @@ static void do_nfkd(sqlite3_context *call, int count, sqlite3_value **given) {
     make(call, &(maker){npss_key, NPSS_NFKD, 0}, given[0]);
 }
 
+static void do_caseless_key(sqlite3_context *call, int count, sqlite3_value **given) {
+    make_under(call, count, given, (maker){npss_caseless_key, 0, 0});
+}
+
+static void do_try_caseless_key(sqlite3_context *call, int count, sqlite3_value **given) {
+    make_under(call, count, given, (maker){npss_caseless_key, 0, 1});
+}
+
+static void do_caseless_nfc(sqlite3_context *call, int count, sqlite3_value **given) {
+    (void)count;
+    make(call, &(maker){npss_caseless_key, NPSS_NFC, 0}, given[0]);
+}
+
+static void do_caseless_nfd(sqlite3_context *call, int count, sqlite3_value **given) {
+    (void)count;
+    make(call, &(maker){npss_caseless_key, NPSS_NFD, 0}, given[0]);
+}
+
+static void do_caseless_nfkc(sqlite3_context *call, int count, sqlite3_value **given) {
+    (void)count;
+    make(call, &(maker){npss_caseless_key, NPSS_NFKC, 0}, given[0]);
+}
+
+static void do_caseless_nfkd(sqlite3_context *call, int count, sqlite3_value **given) {
+    (void)count;
+    make(call, &(maker){npss_caseless_key, NPSS_NFKD, 0}, given[0]);
+}
+
 /* ---- questions */
 
 static void tell(sqlite3_context *call, npss_answer a) {
@@ -169,7 +199,10 @@ static void do_is_normalized(sqlite3_context *call, int count, sqlite3_value **g
     tell(call, npss_is_form(&connection_of(call)->tables, form, text, length));
 }
 
-static void do_equivalent(sqlite3_context *call, int count, sqlite3_value **given) {
+/* How two texts are compared: npss_equivalent or npss_caseless_match. */
+typedef npss_answer comparer(npss_handle *, bool, const uint8_t *, size_t, const uint8_t *, size_t);
+
+static void compare(sqlite3_context *call, int count, sqlite3_value **given, comparer *how) {
     uint8_t form = count > 2 ? form_of(call, given[2]) : NPSS_NFC;
     const uint8_t *left, *right;
     size_t left_length, right_length;
@@ -177,8 +210,15 @@ static void do_equivalent(sqlite3_context *call, int count, sqlite3_value **give
         !ready(call, connection_of(call)) || !(left = text_of(call, given[0], &left_length)) ||
         !(right = text_of(call, given[1], &right_length)))
         return;
-    tell(call, npss_equivalent(&connection_of(call)->tables, form == NPSS_NFKC || form == NPSS_NFKD, left, left_length,
-                               right, right_length));
+    tell(call, how(&connection_of(call)->tables, form == NPSS_NFKC || form == NPSS_NFKD, left, left_length, right, right_length));
+}
+
+static void do_equivalent(sqlite3_context *call, int count, sqlite3_value **given) {
+    compare(call, count, given, npss_equivalent);
+}
+
+static void do_caseless_match(sqlite3_context *call, int count, sqlite3_value **given) {
+    compare(call, count, given, npss_caseless_match);
 }
 
 /* ---- loading */
@@ -199,15 +239,21 @@ int sqlite3_npss_init(sqlite3 *db, char **error, const sqlite3_api_routines *api
         /* The keys: deterministic, for indexes, generated columns and checks. */
         {"npss_key", 1, KEY, do_key}, {"npss_key", 2, KEY, do_key}, {"npss_nfc", 1, KEY, do_nfc},
         {"npss_nfd", 1, KEY, do_nfd}, {"npss_nfkc", 1, KEY, do_nfkc}, {"npss_nfkd", 1, KEY, do_nfkd},
+        {"npss_caseless_key", 1, KEY, do_caseless_key}, {"npss_caseless_key", 2, KEY, do_caseless_key},
+        {"npss_caseless_nfc", 1, KEY, do_caseless_nfc}, {"npss_caseless_nfd", 1, KEY, do_caseless_nfd},
+        {"npss_caseless_nfkc", 1, KEY, do_caseless_nfkc}, {"npss_caseless_nfkd", 1, KEY, do_caseless_nfkd},
         /* What these answer changes with a raise, so no index may stand on them. */
         {"npss_try_key", 1, ASK, do_try_key}, {"npss_try_key", 2, ASK, do_try_key},
         {"npss_normalize", 1, ASK, do_normalize}, {"npss_normalize", 2, ASK, do_normalize},
         {"npss_is_normalized", 1, ASK, do_is_normalized}, {"npss_is_normalized", 2, ASK, do_is_normalized},
         {"npss_equivalent", 2, ASK, do_equivalent}, {"npss_equivalent", 3, ASK, do_equivalent},
+        {"npss_try_caseless_key", 1, ASK, do_try_caseless_key}, {"npss_try_caseless_key", 2, ASK, do_try_caseless_key},
+        {"npss_caseless_match", 2, ASK, do_caseless_match}, {"npss_caseless_match", 3, ASK, do_caseless_match},
         {"npss_version", 0, ASK, do_version}, {"npss_is_raising", 0, ASK, do_is_raising},
         /* Not from within a schema. */
-        {"npss_open", 1, DIRECT, do_open}, {"npss_open", 2, DIRECT, do_open}, {"npss_audit", 1, DIRECT, do_audit},
-        {"npss_audit", 2, DIRECT, do_audit}, {"npss_raise", 1, DIRECT, do_raise}, {"npss_raise", 2, DIRECT, do_raise},
+        {"npss_open", 1, DIRECT, do_open}, {"npss_open", 2, DIRECT, do_open}, {"npss_open", 3, DIRECT, do_open},
+        {"npss_audit", 1, DIRECT, do_audit}, {"npss_audit", 2, DIRECT, do_audit}, {"npss_audit", 3, DIRECT, do_audit},
+        {"npss_raise", 1, DIRECT, do_raise}, {"npss_raise", 2, DIRECT, do_raise}, {"npss_raise", 3, DIRECT, do_raise},
     };
     connection *self;
     int code = SQLITE_OK;

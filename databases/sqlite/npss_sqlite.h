@@ -37,6 +37,8 @@ typedef struct connection {
     uintptr_t number;       /* of the tables in use, another one each time that others come */
     sqlite3_int64 assigned; /* how many code points they assign */
     int is_recorded;        /* they are those of npss_record, and not of npss_open */
+    int is_folded;          /* they have foldings, and make caseless keys */
+    int folded_own;         /* those of npss_open have made a caseless key, which may be stored */
     int may_be_undone;      /* a rollback may take the record back that is in use: each call looks at it */
     state seen;             /* the main database, when the record was looked at */
     fitting attached[MOST_ATTACHED];
@@ -62,9 +64,11 @@ int refuse(sqlite3_context *call, npss_answer a);
 int opened(sqlite3_context *call, npss_handle *tables, const files *of);
 int files_of(sqlite3_context *call, int count, sqlite3_value **given, files *found);
 void free_files(files *held);
+npss_answer keeps_own(npss_handle *older, npss_handle *newer);
 
 /* record.c */
 int ask_number(sqlite3 *db, const char *text, sqlite3_int64 *told);
+int folding_column(sqlite3 *db, const char *schema);
 unsigned data_version(sqlite3 *db, const char *schema);
 int transaction_of(sqlite3 *db, const char *schema);
 int use(sqlite3_context *call, connection *self, npss_handle *tables, int is_recorded);

@@ -14,18 +14,25 @@ void do_version(sqlite3_context *call, int count, sqlite3_value **given) {
     if (ready(call, connection_of(call))) sqlite3_result_int64(call, connection_of(call)->assigned);
 }
 
-/* npss_audit(FOLDER): `extends`, or what the files would break first. Changes nothing. */
+/* What newer files break first, of sqlite3_mprintf. */
+static char *told_break(npss_answer a) {
+    if (a.status == NPSS_NO_FOLDING) return sqlite3_mprintf("no %s", file_names[FOLDING_FILE]);
+    return sqlite3_mprintf("%s %04X", break_name(a).text, a.code);
+}
+
+/* npss_audit(FOLDER): `extends`, or what the files would break first, or that they lack the foldings that there are. Changes
+ * nothing. */
 void do_audit(sqlite3_context *call, int count, sqlite3_value **given) {
     connection *self = connection_of(call);
     npss_handle fresh = {0, NULL};
     npss_answer a;
     files held;
     if (files_of(call, count, given, &held) && opened(call, &fresh, &held) && ready(call, self)) {
-        a = npss_extends(&self->tables, &fresh);
+        a = keeps_own(&self->tables, &fresh);
         if (a.status == NPSS_DONE) {
             sqlite3_result_text(call, "extends", -1, SQLITE_STATIC);
         } else {
-            char *told = sqlite3_mprintf("%s %04X", break_name(a).text, a.code);
+            char *told = told_break(a);
             if (told) sqlite3_result_text(call, told, -1, sqlite3_free);
             else fail_memory(call);
         }
@@ -36,8 +43,10 @@ void do_audit(sqlite3_context *call, int count, sqlite3_value **given) {
 
 /* Sees to it that newer tables extend those that keys are made by; 0 where an error is set. */
 static int extends(sqlite3_context *call, npss_handle *older, npss_handle *newer) {
-    npss_answer a = npss_extends(older, newer);
+    npss_answer a = keeps_own(older, newer);
     if (a.status == NPSS_DONE) return 1;
+    if (a.status == NPSS_NO_FOLDING)
+        return fail(call, sqlite3_mprintf("npss: the files have no %s, which this database's version has", file_names[FOLDING_FILE]));
     return fail(call, sqlite3_mprintf("npss: the files do not extend this database's version: %s %04X", break_name(a).text, a.code));
 }
 
@@ -66,11 +75,12 @@ void do_open(sqlite3_context *call, int count, sqlite3_value **given) {
 
 /* ---- the record, which npss_raise alone writes: triggers ask npss_is_raising. In a dump they come behind the data. */
 
-static const char insert_text[] = "INSERT INTO main.npss_record (one, assigned, data, exclusions) VALUES (1, ?1, ?2, ?3)";
-static const char update_text[] = "UPDATE main.npss_record SET assigned = ?1, data = ?2, exclusions = ?3";
+static const char insert_text[] = "INSERT INTO main.npss_record (one, assigned, data, exclusions, folding) VALUES (1, ?1, ?2, ?3, ?4)";
+static const char update_text[] = "UPDATE main.npss_record SET assigned = ?1, data = ?2, exclusions = ?3, folding = ?4";
+static const char column_text[] = "ALTER TABLE main.npss_record ADD COLUMN folding BLOB";
 static const char record_text[] =
     "CREATE TABLE IF NOT EXISTS main.npss_record (one INTEGER PRIMARY KEY CHECK (one = 1), assigned INTEGER NOT NULL, "
-    "data BLOB NOT NULL, exclusions BLOB NOT NULL);"
+    "data BLOB NOT NULL, exclusions BLOB NOT NULL, folding BLOB);"
     "CREATE TRIGGER IF NOT EXISTS main.npss_record_insert BEFORE INSERT ON npss_record WHEN NOT npss_is_raising() "
     "BEGIN SELECT RAISE(ABORT, 'npss: npss_record is written by npss_raise alone'); END;"
     "CREATE TRIGGER IF NOT EXISTS main.npss_record_update BEFORE UPDATE ON npss_record WHEN NOT npss_is_raising() "
@@ -86,8 +96,9 @@ void do_is_raising(sqlite3_context *call, int count, sqlite3_value **given) {
     if (self->writes > 0) self->writes--;
 }
 
-/* Whether a file is bound to a statement's place. */
+/* Whether a file is bound to a statement's place, or NULL where it isn't there. */
 static int bound(sqlite3_stmt *put, int place, const bytes *file) {
+    if (!file->at) return sqlite3_bind_null(put, place) == SQLITE_OK;
     return sqlite3_bind_blob64(put, place, file->at, file->length, SQLITE_STATIC) == SQLITE_OK;
 }
 
@@ -96,7 +107,8 @@ static int write_record(sqlite3_context *call, connection *self, const char *tex
     sqlite3_stmt *put = NULL;
     int done = sqlite3_prepare_v2(self->db, text, -1, &put, NULL) == SQLITE_OK &&
                sqlite3_bind_int64(put, 1, assigned) == SQLITE_OK &&
-               bound(put, 2, &held->each[DATA_FILE]) && bound(put, 3, &held->each[EXCLUSIONS_FILE]);
+               bound(put, 2, &held->each[DATA_FILE]) && bound(put, 3, &held->each[EXCLUSIONS_FILE]) &&
+               bound(put, 4, &held->each[FOLDING_FILE]);
     self->writes = 1;
     if (!done || sqlite3_step(put) != SQLITE_DONE) done = fail_by_database(call);
     self->writes = 0;
@@ -134,6 +146,7 @@ static int raise_within(sqlite3_context *call, connection *self, npss_handle *fr
     code = run(self->db, "UPDATE main.npss_record SET assigned = assigned", patience);
     self->writes = 0;
     if ((code != SQLITE_OK && code != SQLITE_ERROR) || run(self->db, record_text, patience) != SQLITE_OK) return fail_by_database(call);
+    if (folding_column(self->db, "main") == SQLITE_ERROR && run(self->db, column_text, patience) != SQLITE_OK) return fail_by_database(call);
     if (!(recorded = use_record(call, self))) return 0;
     if (recorded > 0 && !extends(call, &self->tables, fresh)) return 0;
     if (self->own.is_open && !extends(call, &self->own, fresh)) return 0;

@@ -19,6 +19,17 @@ int ask_number(sqlite3 *db, const char *text, sqlite3_int64 *told) {
     return code & 0xFF;
 }
 
+/* Whether the record of a database has a column for foldings: SQLITE_OK; SQLITE_ERROR where it was made before the extension knew
+ * them; else why that can't be told. */
+int folding_column(sqlite3 *db, const char *schema) {
+    sqlite3_stmt *ask = NULL;
+    char *text = sqlite3_mprintf("SELECT folding FROM \"%w\".npss_record", schema);
+    int code = text ? sqlite3_prepare_v2(db, text, -1, &ask, NULL) : SQLITE_NOMEM;
+    sqlite3_finalize(ask);
+    sqlite3_free(text);
+    return code & 0xFF;
+}
+
 /* The data version of a database, of the main one where none is named. */
 unsigned data_version(sqlite3 *db, const char *schema) {
     unsigned told = 0;
@@ -76,6 +87,7 @@ int use(sqlite3_context *call, connection *self, npss_handle *tables, int is_rec
     }
     self->assigned = (sqlite3_int64)npss_count(tables).length;
     self->is_recorded = is_recorded;
+    self->is_folded = has_foldings(tables);
     return 1;
 }
 
@@ -85,10 +97,19 @@ static bytes blob(sqlite3_stmt *row, int column) {
     return (bytes){at ? at : (const uint8_t *)"", (size_t)sqlite3_column_bytes(row, column)};
 }
 
-/* Whether a record's tables may take the place of those of npss_open, whose keys may be stored; 0 where an error is set. */
+/* The files of a row of the record, which live as long as the row. */
+static files files_in(sqlite3_stmt *row) {
+    int has_folding = sqlite3_column_type(row, FOLDING_FILE) != SQLITE_NULL;
+    return (files){{blob(row, DATA_FILE), blob(row, EXCLUSIONS_FILE), has_folding ? blob(row, FOLDING_FILE) : (bytes){NULL, 0}}};
+}
+
+/* Whether a record's tables may take the place of those of npss_open, whose keys may be stored; 0 where an error is set. Foldings
+ * count where both have some. Without any a record takes no caseless key over. */
 static int fits_own(sqlite3_context *call, connection *self, npss_handle *recorded) {
-    if (!self->own.is_open || npss_extends(&self->own, recorded).status == NPSS_DONE ||
-        npss_extends(recorded, &self->own).status == NPSS_DONE)
+    int folds = has_foldings(recorded), both = folds && has_foldings(&self->own);
+    if (!self->own.is_open) return 1;
+    if ((folds || !self->folded_own) && (keeps_keys(&self->own, recorded, both).status == NPSS_DONE ||
+                                         keeps_keys(recorded, &self->own, both).status == NPSS_DONE))
         return 1;
     npss_close(&self->tables);
     return fail(call, sqlite3_mprintf("npss: neither this database's record nor the files of npss_open extend the other: close this "
@@ -97,14 +118,16 @@ static int fits_own(sqlite3_context *call, connection *self, npss_handle *record
 
 /* Takes the record's tables into use: 1; 0 where an error is set; -1 where there is no record. */
 int use_record(sqlite3_context *call, connection *self) {
-    static const char text[] = "SELECT data, exclusions FROM main.npss_record";
+    static const char text[] = "SELECT data, exclusions, folding FROM main.npss_record";
+    static const char older[] = "SELECT data, exclusions, NULL FROM main.npss_record";
     npss_handle fresh = {0, NULL};
     sqlite3_stmt *ask = NULL;
     int done = -1, code = sqlite3_prepare_v2(self->db, text, -1, &ask, NULL);
-    if (code == SQLITE_ERROR) return -1; /* there is no such table */
+    if (code == SQLITE_ERROR) code = sqlite3_prepare_v2(self->db, older, -1, &ask, NULL); /* there is no such column */
+    if (code == SQLITE_ERROR) return -1;                                                  /* nor such a table */
     if (code == SQLITE_OK) code = sqlite3_step(ask);
     if (code == SQLITE_ROW) {
-        files found = {{blob(ask, DATA_FILE), blob(ask, EXCLUSIONS_FILE)}};
+        files found = files_in(ask);
         done = opened(call, &fresh, &found) && fits_own(call, self, &fresh) && use(call, self, &fresh, 1);
     } else if (code != SQLITE_DONE) {
         done = fail_by_database(call);
@@ -124,11 +147,12 @@ static int use_own(sqlite3_context *call, connection *self) {
 }
 
 /* Whether the record still has the tables in use, where its schema hasn't changed: 1; 0 where it hasn't; -1 where an error is
- * set. A version of as many code points that extends another one makes the same keys. */
+ * set. A version of as many code points that extends another one makes the same keys, and as many caseless ones where it folds. */
 static int is_in_use(sqlite3_context *call, connection *self) {
     sqlite3_int64 recorded = 0;
-    int code = ask_number(self->db, "SELECT assigned FROM main.npss_record", &recorded);
-    if (code == SQLITE_ROW) return self->is_recorded && recorded == self->assigned;
+    int code = ask_number(self->db, "SELECT 2 * assigned + (folding IS NOT NULL) FROM main.npss_record", &recorded);
+    if (code == SQLITE_ERROR) code = ask_number(self->db, "SELECT 2 * assigned FROM main.npss_record", &recorded);
+    if (code == SQLITE_ROW) return self->is_recorded && recorded == 2 * self->assigned + self->is_folded;
     if (code == SQLITE_ERROR || code == SQLITE_DONE) return !self->is_recorded;
     fail_by_database(call);
     return -1;
@@ -141,7 +165,10 @@ static void settle(connection *self, const state *now, int may_be_undone) {
     ask_number(self->db, "PRAGMA read_uncommitted", &dirty);
     self->may_be_undone = may_be_undone || dirty != 0;
     self->seen = *now;
-    if (self->is_recorded && !self->may_be_undone && sqlite3_get_autocommit(self->db)) npss_close(&self->own);
+    if (self->is_recorded && !self->may_be_undone && sqlite3_get_autocommit(self->db)) {
+        npss_close(&self->own);
+        self->folded_own = 0;
+    }
 }
 
 /* Takes tables into use that npss_raise has recorded; 0 where an error is set. */

@@ -88,12 +88,15 @@ class Indexes(Case):
 
     def test_no_index_stands_on_what_a_raise_changes(self):
         base = self.with_names()
-        for call in ("npss_try_key(name)", "npss_normalize(name)", "npss_is_normalized(name)", "npss_equivalent(name, 'a')", "npss_version()"):
+        for call in ("npss_try_key(name)", "npss_normalize(name)", "npss_is_normalized(name)", "npss_equivalent(name, 'a')", "npss_version()",
+                     "npss_try_caseless_key(name)", "npss_caseless_match(name, 'a')"):
             self.refused("non-deterministic", base, f"CREATE INDEX other ON account ({call})")
         rows = base.execute("SELECT name || narg, flags & 0x800 > 0, flags & 0x200000 > 0, flags & 0x80000 > 0 FROM pragma_function_list WHERE name LIKE 'npss%'")
-        keys = {"npss_key1", "npss_key2", "npss_nfc1", "npss_nfd1", "npss_nfkc1", "npss_nfkd1"}
-        direct = {"npss_open1", "npss_open2", "npss_audit1", "npss_audit2", "npss_raise1", "npss_raise2"}
-        for name, *flags in rows:
+        keys = {f"npss_{kind}{name}" for kind in ("", "caseless_") for name in ("key1", "key2", "nfc1", "nfd1", "nfkc1", "nfkd1")}
+        direct = {f"npss_{name}{count}" for name in ("open", "audit", "raise") for count in (1, 2, 3)}
+        told = {name: flags for name, *flags in rows}
+        self.assertEqual(keys | direct, (keys | direct) & told.keys())
+        for name, flags in told.items():
             self.assertEqual(flags, [int(name in keys), int(name not in direct), int(name in direct)], name)
 
     def test_where_schemas_are_not_trusted(self):

@@ -9,7 +9,7 @@ import tempfile
 import unittest
 from pathlib import Path
 
-from cases import EXTENSION, MIDDLE, NEW, OLD, OLD_COUNT, YOUNGEST, Case
+from cases import CASED_MIDDLE, CASED_NEW, CASED_OLD, EXTENSION, MIDDLE, NEW, OLD, OLD_COUNT, YOUNGEST, Case
 
 # What refuses allocations one by one (its first comment says how it is told).
 REFUSE = Path(__file__).resolve().parents[2] / "tests" / "program" / "refusals" / "refuse.c"
@@ -17,16 +17,19 @@ REFUSE = Path(__file__).resolve().parents[2] / "tests" / "program" / "refusals" 
 
 class Memory(Case):
     def test_nothing_is_left_of_what_failed(self):
-        base = self.with_names(NEW)
+        base = self.with_names(CASED_NEW)
         before = 0
         for _ in range(2):
             for _ in range(8):
-                self.refused("do not extend", base, "SELECT npss_raise(?)", OLD)
-                self.assertEqual(self.asked(base, "npss_audit(?)", MIDDLE), "Lost 0CF3")
+                self.refused("do not extend", base, "SELECT npss_raise(?)", CASED_OLD)
+                self.assertEqual(self.asked(base, "npss_audit(?)", CASED_MIDDLE), "Lost 0CF3")
                 self.assertIsNone(self.asked(base, "npss_try_key(?)", "\ufdfa" * 20_000 + "\U000e0080"))
                 self.assertEqual(self.asked(base, "length(npss_nfkd(?))", "\ufdfa" * 20_000), 360_000)
+                self.refused("not assigned", base, "SELECT npss_caseless_nfkc(?)", "\ufdfa" * 20_000 + "\U000e0080")
+                self.assertEqual(self.asked(base, "length(npss_caseless_nfkd(?))", "\ufdfa" * 20_000), 360_000)
+                self.refused("have no CaseFolding.txt", base, "SELECT npss_raise(?)", NEW)
                 beside = self.connect()
-                self.assertEqual(self.asked(beside, "npss_key('a')"), "a")
+                self.assertEqual(self.asked(beside, "npss_caseless_key('A')"), "a")
                 beside.close()
             now = int(Path("/proc/self/statm").read_text().split()[1]) * 4096
             before, grown = now, now - before
@@ -57,9 +60,16 @@ print(base.execute("SELECT npss_nfc('a')").fetchone()[0])
     @unittest.skipUnless(shutil.which("cc") and shutil.which("sqlite3"), "cc or SQLite's shell is not here")
     def test_a_raise_that_was_refused_memory_is_undone(self):
         """Each allocation of a raise within a transaction is refused in turn. Behind the rollback keys are those of before."""
-        before = [f".load {EXTENSION}", f"SELECT npss_raise('{OLD}');", "BEGIN;"]
-        raised = [f"SELECT npss_raise('{NEW}');"]
-        behind = [f"SELECT npss_try_key('{YOUNGEST}');", "ROLLBACK;", f"SELECT 'end', npss_version(), npss_try_key('{YOUNGEST}') IS NULL;"]
+        self.raised_and_undone(OLD, NEW, "npss_try_key")
+
+    @unittest.skipUnless(shutil.which("cc") and shutil.which("sqlite3"), "cc or SQLite's shell is not here")
+    def test_a_raise_with_foldings_that_was_refused_memory_is_undone(self):
+        self.raised_and_undone(CASED_OLD, CASED_NEW, "npss_try_caseless_key")
+
+    def raised_and_undone(self, old, new, call):
+        before = [f".load {EXTENSION}", f"SELECT npss_raise('{old}');", "BEGIN;"]
+        raised = [f"SELECT npss_raise('{new}');"]
+        behind = [f"SELECT {call}('{YOUNGEST}');", "ROLLBACK;", f"SELECT 'end', npss_version(), {call}('{YOUNGEST}') IS NULL;"]
         with tempfile.TemporaryDirectory() as name:
             shim = Path(name, "refuse.so")
             subprocess.run(["cc", "-O2", "-shared", "-fPIC", "-o", shim, REFUSE], check=True)
@@ -102,6 +112,9 @@ print(base.execute("SELECT npss_nfc('a')").fetchone()[0])
         statements = [f"SELECT npss_raise('{OLD}');", *(f"SELECT length(npss_nfc(printf('%.*c', {length - 2}, 'x') || '\u00eb'));" for length in lengths),
                       "SELECT npss_nfd('\u1ead'), npss_try_key('\u1df9'), npss_is_normalized('e\u0308'), npss_equivalent('a', '\u1ead', 'nfkd');",
                       f"SELECT npss_audit('{MIDDLE}');", f"SELECT npss_raise('{NEW}');", f"SELECT npss_raise('{OLD}');", "SELECT npss_raise('/none');",
+                      f"SELECT npss_raise('{CASED_NEW}');", f"SELECT npss_raise('{NEW}');", f"SELECT npss_audit('{CASED_OLD}');",
+                      *(f"SELECT length(npss_caseless_nfkc(printf('%.*c', {length - 2}, 'X') || '\u00cb'));" for length in lengths),
+                      "SELECT npss_caseless_nfd('\u1e9e'), npss_try_caseless_key('\U000e0080'), npss_caseless_match('A', '\u1ead', 'nfkd');",
                       f"ATTACH '{self.path}' AS other;", "CREATE TABLE other.npss_record (data, exclusions);", "INSERT INTO other.npss_record VALUES (x'00', x'00');",
                       "CREATE TABLE other.account (key TEXT);", "INSERT INTO other.account VALUES (npss_nfc('\u1ead'));", "DELETE FROM other.npss_record;",
                       "INSERT INTO other.account VALUES (npss_nfc('\u1ead'));"]

@@ -3,7 +3,7 @@
 import re
 from pathlib import Path
 
-from cases import NEW, Case
+from cases import CASED_NEW, Case
 
 PAGE = Path(__file__).resolve().parent.parent.parent / "docs" / "MOVING.md"
 NAMES, COLLISIONS, NAMELESS = 100_000, 100, 10
@@ -13,7 +13,7 @@ def blocks():
     """The page's blocks for SQLite, without the line that loads the extension, over the version of these tests."""
     section = PAGE.read_text(encoding="utf-8").partition("\n## SQLite\n")[2].partition("\n## ")[0]
     texts = re.findall(r"```sql\n(.*?)```", section, re.DOTALL)
-    return [re.sub(r"^\.load .*\n", "", text, flags=re.MULTILINE).replace("/usr/share/unicode", NEW) for text in texts]
+    return [re.sub(r"^\.load .*\n", "", text, flags=re.MULTILINE).replace("/usr/share/unicode", CASED_NEW) for text in texts]
 
 
 class Moving(Case):

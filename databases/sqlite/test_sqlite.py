@@ -1,13 +1,14 @@
 #!/usr/bin/env python3
 """test_sqlite.py EXTENSION FOLDER [WORD..]: tests the extension npss.so for SQLite.
 
-FOLDER has the folders 13.0, 14.0 and 15.0, each with UnicodeData.txt and CompositionExclusions.txt. This Python's sqlite3
-loads extensions. The words are those of Python's unittest. Ends in a line 'N passed, M failed'.
+FOLDER has the folders 13.0, 14.0 and 15.0, each with UnicodeData.txt and CompositionExclusions.txt, and below `caseless` the same
+three with CaseFolding.txt too. This Python's sqlite3 loads extensions. The words are those of Python's unittest. Ends in a line 'N passed, M failed'.
 """
 
 import sys
 import unittest
 
+from test_caseless import Beside, Caseless, Foldings
 from test_dumps import Dumps, Opened
 from test_keys import Functions, Indexes
 from test_memory import Memory
@@ -15,7 +16,8 @@ from test_moving import Moving
 from test_raises import Files, Raises, Waits
 from test_replaced import Attached, Looks, Replaced
 
-__all__ = ["Attached", "Dumps", "Files", "Functions", "Indexes", "Looks", "Memory", "Moving", "Opened", "Raises", "Replaced", "Waits"]
+__all__ = ["Attached", "Beside", "Caseless", "Dumps", "Files", "Foldings", "Functions", "Indexes", "Looks", "Memory", "Moving", "Opened", "Raises",
+           "Replaced", "Waits"]
 
 if __name__ == "__main__":
     result = unittest.main(argv=sys.argv[:1] + sys.argv[3:], exit=False, verbosity=0).result

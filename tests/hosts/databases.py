@@ -32,6 +32,8 @@ AGES = ((13, 0), (14, 0))
 SYSTEM_PYTHON = "/usr/bin/python3"
 LOADS = "import sqlite3; sqlite3.connect(':memory:').enable_load_extension(True)"
 CLIENTS = "import psycopg, pymysql"
+# The head of a table of the pages that names numbers.
+HEAD = "| Number | Name |"
 
 
 def has_sqlite():
@@ -39,15 +41,22 @@ def has_sqlite():
 
 
 def versions_below(files, folder):
-    """A folder that has one folder for each version, for anybody to read."""
-    named = {".".join(map(str, age)): ucd.write_cut(files, age, folder)[0] for age in AGES}
-    named["15.0"] = [files[ucd.DATA], files[ucd.EXCLUSIONS]]
-    for label, names in named.items():
-        (folder / label).mkdir()
-        for name, to in zip(names, (ucd.DATA, ucd.EXCLUSIONS)):
-            shutil.copy(name, folder / label / to)
+    """A folder that has one folder for each version, and all once more with CaseFolding.txt below `caseless`, for anybody to read."""
+    for age in AGES:
+        names, kept = ucd.write_cut(files, age, folder)
+        put_version(folder, ".".join(map(str, age)), names, ucd.cut_foldings(ucd.text_of(files, ucd.FOLDING), kept))
+    put_version(folder, "15.0", [files[ucd.DATA], files[ucd.EXCLUSIONS]], ucd.text_of(files, ucd.FOLDING))
     folder.chmod(0o755)
     return folder
+
+
+def put_version(folder, label, names, folding):
+    """Puts the two files of a version below its label, and with its foldings below `caseless`."""
+    for to in (folder / label, folder / "caseless" / label):
+        to.mkdir(parents=True)
+        for name, file in zip(names, (ucd.DATA, ucd.EXCLUSIONS)):
+            shutil.copy(name, to / file)
+    (folder / "caseless" / label / ucd.FOLDING).write_text(folding, encoding="utf-8")
 
 
 def counted(tally, name, words, **options):
@@ -80,13 +89,16 @@ def loading_python():
 def wanted_of_common():
     """What the extensions tell of each number, by the pages; a number that no page has is unknown."""
     files, tables, breaks = page_names.file_faults(), page_names.table_faults(), page_names.break_names()
+    lines, conditions = page_names.folding_faults(), page_names.condition_faults()
     wanted = {}
     for number in (*range(16), 64, 1 << 31, (1 << 32) - 1):
         wanted |= {f"break {number}": breaks.get(number, "unknown"),
                    f"data {number}": f"UnicodeData.txt, line {(1 << 64) - 1}: {files.get(number, 'unknown')}",
                    f"exclusions {number}": f"CompositionExclusions.txt, line 7: {files.get(number, 'unknown')}",
-                   f"tables {number}": f"Both files together: {tables.get(number, 'unknown')} at code point U+10FFFF"}
-    for number, name in enumerate((ucd.DATA, ucd.EXCLUSIONS), 1):
+                   f"tables {number}": f"Both files together: {tables.get(number, 'unknown')} at code point U+10FFFF",
+                   f"folding {number}": f"CaseFolding.txt, line 7: {lines.get(number, 'unknown')}",
+                   f"foldings {number}": f"The three files together: {conditions.get(number, 'unknown')} at code point U+0041"}
+    for number, name in enumerate((ucd.DATA, ucd.EXCLUSIONS, ucd.FOLDING), 1):
         wanted[f"large {number}"] = f"{name} has more than 16777216 bytes"
     return wanted | {"status 0": "the library answered 4294967295", "digested": "0200000000000000616263"}
 
@@ -105,7 +117,7 @@ def check_common(tally, prefix, room):
     told = dict(line.split("\t", 1) for line in ran.stdout.splitlines())
     wanted = wanted_of_common()
     tally.same("what the extensions share tells", (ran.returncode, {name: told.get(name) for name in wanted}), (0, wanted))
-    tally.check("the pages have all names", sum("unknown" not in text for name, text in wanted.items() if name.startswith(("break", "data", "tables"))) >= 21, wanted)
+    tally.check("the pages have all names", sum("unknown" not in text for name, text in wanted.items() if name.startswith(("break", "data", "tables", "folding"))) >= 33, wanted)
     tally.same("forms by their words", {word: int(told[f"word {word}"].split()[0]) for word in words}, words)
     tally.same("labels of versions", {word: int(told[f"word {word}"].split()[1]) for word in labels}, labels)
 

@@ -23,9 +23,10 @@ from hosts import databases
 import ucd
 from harness import ROOT, Tally
 
-KEYS, REFUSALS, QUESTIONS, WHY, RECORD, RAISE, OWNER, FILES, VERSIONS, SETTINGS = (
-    f"postgresql/{name}.c" for name in ("keys", "refusals", "questions", "why", "record", "raise", "owner", "files", "versions", "npss_pg"))
-SQL, NEWER_SQL, CONTROL = (f"postgresql/{name}" for name in ("npss--0.2.sql", "npss--0.2--0.3.sql", "npss.control"))
+KEYS, REFUSALS, QUESTIONS, WHY, RECORD, RAISE, OWNER, FILES, VERSIONS, SETTINGS, CASELESS, FOLDING = (
+    f"postgresql/{name}.c" for name in ("keys", "refusals", "questions", "why", "record", "raise", "owner", "files", "versions", "npss_pg", "caseless", "folding"))
+SQL, NEWER_SQL, CASELESS_SQL, CONTROL = (f"postgresql/{name}" for name in ("npss--0.2.sql", "npss--0.2--0.3.sql", "npss--0.3--0.4.sql", "npss.control"))
+MOVING = "docs/MOVING.md"
 PAGE, COMMON, COMMON_HEAD = "docs/DATABASES.md", "common.c", "common.h"
 LITE, LITE_RECORD, LITE_RAISE, LITE_FILES, LITE_ATTACHED = (f"sqlite/{name}.c" for name in ("npss_sqlite", "record", "raise", "files", "attached"))
 
@@ -52,7 +53,7 @@ PLANTS = {
     "the room is told 8 bytes too large": (KEYS, "input.at, input.length, room, ROOM);", "input.at, input.length, room, ROOM + 8);", "Memory"),
     "the room of a large short text is one byte short": (KEYS, "made = palloc(VARHDRSZ + answer->length);", "made = palloc(VARHDRSZ + answer->length - 1);", "Memory"),
     "a text that ANALYZE asks for on a server that lags is refused": (KEYS, "(wanted.may_lack || lags_in_analyze())", "wanted.may_lack", "Vacuums"),
-    "a normal form doesn't follow": (KEYS, "wanted.make == npss_key ? version_in_force(fcinfo) : version_for_question(fcinfo)", "version_in_force(fcinfo)", "Standby"),
+    "a normal form doesn't follow": (KEYS, "make == npss_key ? version_in_force(fcinfo) : version_for_question(fcinfo)", "version_in_force(fcinfo)", "Standby"),
     "long texts are the same where their lengths are": (QUESTIONS, "left.length == right.length && memcmp(left.at, right.at, left.length) == 0", "left.length == right.length", "Long"),
     "a long right text is compared without interrupts": (QUESTIONS, "left.length + right.length > LONG_TEXT", "left.length > LONG_TEXT", "Bounds.test_a_comparison_ends_where_one_text_is_long"),
     "a long left text is compared without interrupts": (QUESTIONS, "left.length + right.length > LONG_TEXT", "right.length > LONG_TEXT", "Bounds.test_a_comparison_ends_where_one_text_is_long"),
@@ -67,8 +68,8 @@ PLANTS = {
     "npss_ready compares no digest": (OWNER, "strcmp(row->digest, version->digest) != 0)", "false)", "Attacks"),
     "the audit is left out": (RAISE, "\tif (answer.status != NPSS_DONE)\n\t\tereport(ERROR,", "\tif (false)\n\t\tereport(ERROR,"),
     "the audit looks the other way": (RAISE, "is_newer = fresh->assigned >=", "is_newer = fresh->assigned <="),
-    "an older version is let in": (RAISE, "if (!is_restored)", "if (false)"),
-    "a raise takes no lock": (RAISE, "\tLockRelationOid(RelationGetRelid(relation), ShareUpdateExclusiveLock);\n", "", "Upgrades"),
+    "an older version is let in": (RAISE, "\t\treturn;\n\tif (!is_restored)", "\t\treturn;\n\tif (false)"),
+    "a raise takes no lock": (RAISE, "\tLockRelationOid(RelationGetRelid(call->tg_relation), ShareUpdateExclusiveLock);\n", "", "Upgrades"),
     "two raises wait for one another": (RAISE, "ShareUpdateExclusiveLock", "ShareRowExclusiveLock", "Upgrades"),
     "rows of the same statement are not seen": (RAISE, "read_rows(relation, SnapshotSelf)", "read_rows(relation, NULL)", "Upgrades"),
     "sessions are not told of a raise": (RAISE, "\tCacheInvalidateRelcache(relation);\n", "", "Upgrades"),
@@ -87,7 +88,7 @@ PLANTS = {
     "a session that lags doesn't follow by questions": (RECORD, "likely(!known.lags) ? version : followed(call, DEBUG1)", "true ? version : followed(call, DEBUG1)", "Standby"),
     "npss_version doesn't tell that it lags": (OWNER, "BoolGetDatum(label_not_here() != NULL)", "BoolGetDatum(false)", "Standby"),
     "an audit doesn't tell that it lags": (OWNER, "if (now != NULL && label_not_here() != NULL)", "if (now == NULL && label_not_here() != NULL)", "Standby"),
-    "files that are recorded already are not told": (RAISE, "if (strcmp(recorded->label, fresh->label) != 0)", "if (false)", "Upgrades"),
+    "files that are recorded already are not told": (RAISE, "\tif (!is_own)\n", "\tif (false)\n", "Upgrades"),
     # PostgreSQL: files and settings
     "a label may have 32 bytes": (COMMON, "length < size", "length <= size", "Words"),
     "a file of the greatest size is refused": (COMMON, "about.st_size > MOST_OF_A_FILE", "about.st_size >= MOST_OF_A_FILE", "Words"),
@@ -126,9 +127,49 @@ PLANTS = {
     "a name may be any text": (SQL, "CHECK (VALUE = npss_nfc(VALUE))", "CHECK (npss_nfc(VALUE) IS NOT NULL)"),
     "a dump lacks the record": (SQL, "SELECT pg_catalog.pg_extension_config_dump(", "SELECT concat(", "Dumps"),
     "a dump has the whole record": (SQL, "'WHERE assigned = (SELECT max(assigned) FROM @extschema@.npss_record)'", "''", "Dumps"),
+    # PostgreSQL: caseless keys
+    "a caseless key is of another form": (CASELESS, "{npss_caseless_key, NPSS_NFKC, false}", "{npss_caseless_key, NPSS_NFC, false}", "Caseless"),
+    "a caseless key is a key": (CASELESS, "{npss_caseless_key, form_of(PG_GETARG_TEXT_PP(1)), false}", "{npss_key, form_of(PG_GETARG_TEXT_PP(1)), false}", "Caseless"),
+    "a tried caseless key is refused": (CASELESS, "{npss_caseless_key, form_of(PG_GETARG_TEXT_PP(1)), true}", "{npss_caseless_key, form_of(PG_GETARG_TEXT_PP(1)), false}", "Caseless"),
+    "a caseless key of ASCII is the text": (KEYS, "wanted.make != npss_caseless_key && needs_no_tables", "needs_no_tables", "Caseless"),
+    "a match is made of forms": (CASELESS, "npss_caseless_match(&version->handle, compatible", "npss_equivalent(&version->handle, compatible", "Caseless"),
+    "each match is canonical": (CASELESS, "npss_caseless_match(&version->handle, compatible", "npss_caseless_match(&version->handle, false", "Caseless"),
+    "a match of long texts is canonical": (CASELESS, "kind = compatible ? NPSS_NFKD : NPSS_NFD", "kind = NPSS_NFD", "LongCaseless"),
+    "a long caseless key is of another form": (CASELESS, "return reformed(version, form, made);", "return reformed(version, NPSS_NFC, made);", "LongCaseless"),
+    "a long text folds once": (CASELESS, "made = folded(version, reformed(version, NPSS_NFKD, made));", "made = reformed(version, NPSS_NFKD, made);", "LongCaseless"),
+    "a long text folds before it is taken apart": (CASELESS, "normal_form(version, NPSS_NFD, input)", "normal_form(version, NPSS_NFC, input)", "LongCaseless"),
+    "a long text has a caseless key whatever is in it": (CASELESS, "*answer = first_unassigned(version, input);", "*answer = (npss_answer) {0};", "LongCaseless"),
+    "npss_caseless_match may stand in an index": (CASELESS_SQL, "'npss_pg_caseless_match' LANGUAGE C STABLE", "'npss_pg_caseless_match' LANGUAGE C IMMUTABLE"),
+    "a caseless key may stand in no index": (CASELESS_SQL, "'npss_pg_caseless_nfkd' LANGUAGE C IMMUTABLE", "'npss_pg_caseless_nfkd' LANGUAGE C STABLE"),
+    # PostgreSQL: the foldings of the record
+    "foldings are not compared": (COMMON, "return caseless ? npss_caseless_extends(older, newer) : npss_extends(older, newer);", "return caseless ? npss_extends(older, newer) : npss_extends(older, newer);", "Caseless"),
+    "a row without foldings comes behind one with some": (RAISE, "const char *older = is_newer ? force->folding : fresh->folding,", "const char *older = is_newer ? fresh->folding : force->folding,", "Caseless"),
+    "a raise takes other foldings than were recorded": (RAISE, "\t\tstrcmp(recorded->folding, fresh->folding) != 0)\n", "\t\tfalse)\n", "Foldings"),
+    "foldings are replaced": (FOLDING, "return folding[0] == '\\0' && !is_kept_in", "return !is_kept_in", "Foldings"),
+    "foldings come with other changes": (FOLDING, "if (column != FOLDING_COLUMN && !is_kept_in", "if (column > FOLDING_COLUMN && !is_kept_in", "Foldings"),
+    "foldings are recorded that are not here": (FOLDING, "digest) == 0 && strcmp(version->folding, folding) == 0;", "digest) == 0;", "Foldings"),
+    "any row gets foldings later": (FOLDING, "if (rows == NIL || strcmp(((Row *) linitial(rows))->digest, digest) != 0 ||", "if (rows == NIL || digest[0] == '\\0' ||", "Foldings"),
+    "foldings never come later": (RAISE, "\t\trecord_folding(relation, fresh);", "\t\t;", "Foldings"),
+    "foldings come under any name": (RAISE, "\telse if (is_in_force &&", "\tif (is_in_force &&", "Foldings"),
+    "who raises writes foldings by his own rights": (FOLDING, "\tSetUserIdAndSecContext(relation->rd_rel->relowner, context | SECURITY_LOCAL_USERID_CHANGE | SECURITY_NOFORCE_RLS);\n", "", "Foldings"),
+    "sessions are not told of foldings": (FOLDING, "\tCacheInvalidateRelcache(call->tg_relation);\n", "", "Foldings"),
+    "foldings that are not recorded make keys": (RECORD, "known.folds = row->folding[0] != '\\0' && strcmp(version->folding, row->folding) == 0;", "known.folds = version->folding[0] != '\\0';", "FoldingsPreloaded"),
+    "any version of the two files has the foldings": (VERSIONS, "(folding[0] == '\\0' || strcmp(version->folding, folding) == 0)", "(folding[0] == '\\0' || version->folding[0] == '\\0')", "Foldings"),
+    "a version without foldings is in force beside one with some": (RECORD, "a < b ? 1 : by_folding(lfirst(left), lfirst(right))", "a < b ? 1 : by_folding(lfirst(right), lfirst(left))", "Foldings"),
+    "a session doesn't look for the third file again": (RECORD, "if (known.unfolded && known.looked", "if (false && known.looked", "FoldingsAway"),
+    "a version is audited without the recorded foldings": (RAISE, "if (row->folding[0] != '\\0' && strcmp(held->folding, row->folding) != 0)", "if (false)", "Foldings"),
+    "npss_ready doesn't look at the third file": (OWNER, "if (row->folding[0] != '\\0' && strcmp(row->folding, version->folding) != 0)", "if (false)", "FoldingsAway"),
+    "npss_ready takes any version behind foldings": (OWNER, "if (!is_recorded && force->folding[0]", "if (false && force->folding[0]", "Caseless"),
+    "an audit doesn't tell that foldings lack": (OWNER, "if (now != NULL && lacks_foldings())", "if (false)", "FoldingsAway"),
+    "ANALYZE wants foldings": (RECORD, "\tif (!is_analyzing())\n\t\treport_unfolded(ERROR);", "\treport_unfolded(ERROR);", "FoldingsAway"),
+    "the foldings of a dump are not compared": (RAISE, "if (*is_restored && folding[0] != '\\0' && strcmp(", "if (false && strcmp(", "FoldingsDumped"),
+    "a dump without foldings takes those that are here": (RAISE, "return given[0] == '\\0' && rows != NIL", "return given[0] != '\\0' && rows != NIL", "FoldingsDumped"),
+    "a faulty third file stops the postmaster's version": (VERSIONS, "\t\t\tversion = open_version(lfirst(at), \"\", &failure);\n", "", "FoldingsPreloaded"),
+    "a third file that nobody recorded is read": (VERSIONS, "if (!is_read && folding == NULL)", "if (!is_read)", "Foldings"),
+    "a new database has no foldings": (CASELESS_SQL, "SELECT npss_raise(label) FROM npss_record WHERE since = now();\n", "", "Caseless"),
     # PostgreSQL: what the page tells to write
-    "the page folds the case of what has no key yet": (PAGE, "(npss_nfkc(lower(npss_nfkc(name))) COLLATE", "(npss_nfkc(lower(name)) COLLATE", "Page"),
-    "the page makes no key of what was folded": (PAGE, "(npss_nfkc(lower(npss_nfkc(name))) COLLATE", "(lower(npss_nfkc(name)) COLLATE", "Page"),
+    "the page's caseless index tells case apart": (PAGE, "ON account (npss_caseless_nfkc(name) COLLATE", "ON account (npss_nfkc(name) COLLATE", "Page"),
+    "the page tells that ICU joins what it doesn't": (PAGE, "| `name COLLATE level2` | one | one | two |", "| `name COLLATE level2` | one | one | one |", "Page"),
     # SQLite: raises
     "SQLite: a failed raise is not rolled back": (LITE_RAISE, "is_whole ? \"ROLLBACK\"", "is_whole ? \"RELEASE npss_raise\""),
     "SQLite: a failed raise within a transaction is not rolled back": (LITE_RAISE, "\"ROLLBACK TO npss_raise; RELEASE npss_raise\"", "\"RELEASE npss_raise\""),
@@ -163,12 +204,12 @@ PLANTS = {
     "SQLite: what isn't committed stays in use": (LITE_RECORD, "may_be_undone || dirty != 0", "may_be_undone", "Replaced"),
     "SQLite: a record that is taken back stays in use": (LITE_RECORD, "return is_new && now->data", "return 0 && is_new && now->data", "Replaced"),
     "SQLite: a record and opened tables needn't fit": (LITE_RECORD, "fits_own(call, self, &fresh) && use", "(fits_own(call, self, &fresh) || 1) && use", "Opened"),
-    "SQLite: a record has to extend opened tables": (LITE_RECORD, "npss_extends(recorded, &self->own).status == NPSS_DONE", "0", "Opened"),
+    "SQLite: a record has to extend opened tables": (LITE_RECORD, "keeps_keys(recorded, &self->own, both).status == NPSS_DONE", "0", "Opened"),
     "SQLite: a first raise that is rolled back stays in use": (LITE_RECORD, "if (found < 0 && !use_own(call, self)) return 0;", "if (found < -1 && !use_own(call, self)) return 0;"),
-    "SQLite: opened tables are forgotten too early": (LITE_RECORD, "!self->may_be_undone && sqlite3_get_autocommit(self->db)) npss_close", "1) npss_close", "Opened"),
+    "SQLite: opened tables are forgotten too early": (LITE_RECORD, "!self->may_be_undone && sqlite3_get_autocommit(self->db)) {", "1) {", "Opened"),
     "SQLite: a lock is taken for no record": (LITE_RECORD, "if (code == SQLITE_ERROR) return -1;", "if (code != SQLITE_OK) return -1;"),
-    "SQLite: the record of any database": (LITE_RECORD, "\"SELECT assigned FROM main.npss_record\"", "\"SELECT assigned FROM npss_record\""),
-    "SQLite: the files of any database": (LITE_RECORD, "\"SELECT data, exclusions FROM main.npss_record\"", "\"SELECT data, exclusions FROM npss_record\""),
+    "SQLite: the record of any database": (LITE_RECORD, "\"SELECT 2 * assigned + (folding IS NOT NULL) FROM main.npss_record\"", "\"SELECT 2 * assigned + (folding IS NOT NULL) FROM npss_record\""),
+    "SQLite: the files of any database": (LITE_RECORD, "\"SELECT data, exclusions, folding FROM main.npss_record\"", "\"SELECT data, exclusions, folding FROM npss_record\""),
     # SQLite: attached databases
     "SQLite: attached databases are written under another version": (LITE_ATTACHED, "        if (!fits(call, self, name)) return 0;\n", "        if (!fits(call, self, name) && 0) return 0;\n", "Attached"),
     "SQLite: attached files of the same counts fit": (LITE_ATTACHED, "a.data = b.data AND a.exclusions = b.exclusions", "length(a.data) = length(b.data)", "Attached"),
@@ -184,7 +225,22 @@ PLANTS = {
     "SQLite: a file of the greatest size is too large": (COMMON, "about.st_size > MOST_OF_A_FILE", "about.st_size >= MOST_OF_A_FILE", "Files"),
     "SQLite: the exclusions may be a text": (LITE_FILES, "if (sqlite3_value_type(given[i]) != SQLITE_BLOB)", "if (sqlite3_value_type(given[0]) != SQLITE_BLOB)", "Files"),
     "SQLite: a file is left in memory": (LITE_FILES, "for (int i = 0; i < FILE_COUNT; i++) sqlite3_free(", "for (int i = 1; i < FILE_COUNT; i++) sqlite3_free(", "Memory"),
-    "SQLite: the files stand in the wrong order": (LITE_RECORD, "{{blob(ask, DATA_FILE), blob(ask, EXCLUSIONS_FILE)}}", "{{blob(ask, EXCLUSIONS_FILE), blob(ask, DATA_FILE)}}"),
+    "SQLite: the files stand in the wrong order": (LITE_RECORD, "{{blob(row, DATA_FILE), blob(row, EXCLUSIONS_FILE),", "{{blob(row, EXCLUSIONS_FILE), blob(row, DATA_FILE),"),
+    # SQLite: foldings
+    "SQLite: foldings are not compared": (COMMON, "return caseless ? npss_caseless_extends(older, newer) : npss_extends(older, newer);", "return caseless ? npss_extends(older, newer) : npss_extends(older, newer);", "Foldings"),
+    "SQLite: files without foldings come behind some": (LITE_FILES, "keeps_keys(older, newer, has_foldings(older));", "keeps_keys(older, newer, has_foldings(older) && has_foldings(newer));", "Foldings"),
+    "SQLite: foldings are not recorded": (LITE_RAISE, "bound(put, 4, &held->each[FOLDING_FILE])", "sqlite3_bind_null(put, 4) == SQLITE_OK", "Foldings"),
+    "SQLite: an older database keeps its columns": (LITE_RAISE, "if (folding_column(self->db, \"main\") == SQLITE_ERROR &&", "if (0 &&", "Foldings"),
+    "SQLite: foldings that another one records are not looked at": (LITE_RECORD, "recorded == 2 * self->assigned + self->is_folded;", "recorded / 2 == self->assigned;", "Foldings"),
+    "SQLite: attached databases have any foldings": (LITE_ATTACHED, "main ? \"NULL\" : \"a.folding\", other ? \"NULL\" : \"b.folding\"", "\"NULL\", \"NULL\"", "Beside"),
+    "SQLite: caseless keys of opened tables are forgotten": (LITE, "self->folded_own = 1;", ";", "Beside"),
+    "SQLite: a record with other foldings fits opened tables": (LITE_RECORD, "both = folds && has_foldings(&self->own);", "both = 0;", "Beside"),
+    "SQLite: a caseless key is of another form": (LITE, "&(maker){npss_caseless_key, NPSS_NFKC, 0}", "&(maker){npss_caseless_key, NPSS_NFC, 0}", "Caseless"),
+    "SQLite: a tried caseless key is refused": (LITE, "(maker){npss_caseless_key, 0, 1}", "(maker){npss_caseless_key, 0, 0}", "Caseless"),
+    "SQLite: a match is made of forms": (LITE, "compare(call, count, given, npss_caseless_match);", "compare(call, count, given, npss_equivalent);", "Caseless"),
+    "SQLite: an index stands on npss_caseless_match": (LITE, "{\"npss_caseless_match\", 2, ASK,", "{\"npss_caseless_match\", 2, KEY,", "Indexes"),
+    "SQLite: a third blob may be a text": (LITE_FILES, "for (int i = 0; i < count; i++) {\n        if (sqlite3_value_type(given[i])", "for (int i = 0; i < count; i++) {\n        if (i < FOLDING_FILE && sqlite3_value_type(given[i])", "Foldings"),
+    "SQLite: a third file that can't be opened is left out": (LITE_FILES, "which == FOLDING_FILE && errno == ENOENT", "which == FOLDING_FILE && errno", "Foldings"),
     # SQLite: keys
     "SQLite: the room is told one byte too large": (LITE, "text, length, self->room, ROOM);", "text, length, self->room, ROOM + 1);", "Memory"),
     "SQLite: a large room is one byte short": (LITE, "sqlite3_malloc64(size);", "sqlite3_malloc64(size - 1);", "Memory"),
@@ -205,7 +261,8 @@ def planted(folder, name):
     shutil.copytree(ROOT / "fixtures", Path(folder, "fixtures"))
     shutil.copytree(ROOT / "tests" / "program" / "refusals", Path(folder, "tests", "program", "refusals"))
     Path(folder, PAGE).parent.mkdir()
-    shutil.copy(ROOT / PAGE, Path(folder, PAGE))
+    for page in (PAGE, MOVING):
+        shutil.copy(ROOT / page, Path(folder, page))
     if name:
         file, old, new = PLANTS[name][:3]
         path = Path(folder, file) if file == PAGE else copy / file

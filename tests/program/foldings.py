@@ -137,16 +137,6 @@ def check_bad(tally, program, three, folder):
     tally.same("one byte too many for a folding file", got, (BAD_TEXT, b"", b"version 0 folding: TooLarge\n"))
 
 
-def cut_foldings(folding, kept):
-    """The lines of the bytes of a folding file for code points of the set that fold to some of the set."""
-    lines = []
-    for line in folding.splitlines(keepends=True):
-        fields = folding_judge.record_of(line.rstrip(b"\n"))
-        if fields and {int(fields[0], 16), *(int(word, 16) for word in fields[2].split())} <= kept:
-            lines.append(line)
-    return b"".join(lines)
-
-
 def cut_versions(files, folder):
     """The versions of each age but the last that DerivedAge.txt names, from 4.1 on, with their folding files; by age."""
     ages = sorted({tuple(map(int, line.split(";")[1].split("."))) for line in ucd.contents(ucd.text_of(files, "DerivedAge.txt"))})
@@ -154,7 +144,7 @@ def cut_versions(files, folder):
         if age >= (4, 1):
             names, kept = ucd.write_cut(files, age, folder)
             folding = folder / f"{'.'.join(map(str, age))}-{ucd.FOLDING}"
-            folding.write_bytes(cut_foldings(files[ucd.FOLDING].read_bytes(), kept))
+            folding.write_text(ucd.cut_foldings(ucd.text_of(files, ucd.FOLDING), kept), encoding="utf-8")
             yield age, Three(*names, folding)
 
 
