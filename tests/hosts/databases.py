@@ -33,7 +33,6 @@ SYSTEM_PYTHON = "/usr/bin/python3"
 LOADS = "import sqlite3; sqlite3.connect(':memory:').enable_load_extension(True)"
 CLIENTS = "import psycopg, pymysql"
 # The head of a table of the pages that names numbers.
-HEAD = "| Number | Name |"
 
 
 def has_sqlite():
