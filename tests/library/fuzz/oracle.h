@@ -44,6 +44,12 @@ inline const char *ucd() {
     return named ? named : "/usr/share/unicode";
 }
 
+/* A file of the folder of fixtures: the environment variable FIXTURES, else where the run begins. */
+inline std::string fixture(const std::string &name) {
+    const char *named = std::getenv("FIXTURES");
+    return file(named ? named : "fixtures", name.c_str());
+}
+
 inline const icu::Normalizer2 &normalizer(uint8_t form) {
     UErrorCode error = U_ZERO_ERROR;
     const icu::Normalizer2 *found = form == NPSS_NFD    ? icu::Normalizer2::getNFDInstance(error)
@@ -99,6 +105,12 @@ inline std::string caseless_form(uint8_t form, const std::string &text) {
 /* The answer of a status that tells a place and a code point. */
 inline npss_answer answer(uint32_t status, uint64_t place = 0, uint32_t code = 0) {
     npss_answer a = {status, 0, code, place, 0};
+    return a;
+}
+
+/* The answer of a status alone, or with what it tells by a number. */
+inline npss_answer alone(uint32_t status, uint32_t fault = 0) {
+    npss_answer a = {status, fault, 0, 0, 0};
     return a;
 }
 

@@ -30,12 +30,6 @@ struct Wanted {
 /* What makes a key or a form of a text. */
 using Maker = std::string (*)(uint8_t form, const std::string &text);
 
-/* The answer of a status alone, or with what it tells by a number. */
-inline npss_answer alone(uint32_t status, uint32_t fault = 0) {
-    npss_answer a = {status, fault, 0, 0, 0};
-    return a;
-}
-
 /* A room of so many bytes, filled, and what stands before it. */
 inline uint8_t *fresh_room(size_t size) {
     std::memset(room_memory.last(size + BEFORE), FILL, size + BEFORE);

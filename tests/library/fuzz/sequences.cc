@@ -40,11 +40,6 @@ static std::vector<KeyRow> keys;
 static std::vector<MatchRow> matches;
 static std::vector<Refusal> refusals;
 
-static std::string fixture(const std::string &name) {
-    const char *named = std::getenv("FIXTURES");
-    return file(named ? named : "fixtures", name.c_str());
-}
-
 /* The rows of a file of the fixtures, cut at each " / ". */
 static std::vector<std::vector<std::string>> rows_of(const std::string &name) {
     std::istringstream lines(fixture(name));
