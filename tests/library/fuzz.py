@@ -6,7 +6,8 @@ PREFIX is where ./build-c installed the library, that of this tree where none is
 libFuzzer over npss_open and npss_open_caseless, with small files and with edits of a fixture and of the published ones.
 Beside them folding files that were edited are opened, and held against the reader of tests/models/folding_judge.py. ICU and
 Debian's package unicode-data have to be of one version. What is found is written to out/fuzz, and its name is told. The
-seed is told, too. With --instrumented the library is first built once more, with its branches counted, which leads libFuzzer (tests/library/fuzz/instrumented.py).
+seed is told, too. With --instrumented the library is first built once more, with its branches counted, which leads libFuzzer
+(tests/library/fuzz/instrumented.py).
 
 Run as root it installs Debian's clang and libicu-dev where they are missing, unless NO_APT=1 is set. What can't run here is
 skipped, with the reason. Ends in a line 'N passed, M failed'.
