@@ -73,8 +73,8 @@ def reason():
     return why if files is None else None
 
 
-def built(tally, prefix, folder, name, more=()):
-    """A fuzzer, or another program that stands beside them, with more words for the compiler; None where it isn't built."""
+def compiled(prefix, folder, name, more=()):
+    """A fuzzer, or another program that stands beside them, with more words for the compiler; and why it isn't there."""
     program = folder / name
     sources = [HERE / f"{source}.cc" for source in SOURCES[name]]
     checks = "address,undefined" if name in PLAIN else "fuzzer,address,undefined"
@@ -82,7 +82,13 @@ def built(tally, prefix, folder, name, more=()):
     words = ["clang++", "-std=c++17", "-O1", "-g", "-Wall", "-Wextra", "-Werror", f"-fsanitize={checks}", "-fno-sanitize-recover=undefined",
              f"-I{prefix}/include", *sources, *more, prefix / "lib" / "libnpss.a", "-o", program, *icu]
     made = subprocess.run(list(map(str, words)), capture_output=True, text=True, check=False)
-    return program if tally.check(f"{name} is built", made.returncode == 0, made.stderr[-2000:]) else None
+    return program, made.stderr[-2000:] if made.returncode else ""
+
+
+def built(tally, name, made):
+    """A program that was compiled; None where it wasn't."""
+    program, why = made
+    return program if tally.check(f"{name} is built", not why, why) else None
 
 
 def seeds(folder):
@@ -159,10 +165,11 @@ def main():
     with tempfile.TemporaryDirectory() as room, ThreadPoolExecutor() as pool:
         folder = Path(room)
         prefix = instrumented.library_below(folder) if chosen.instrumented else chosen.prefix.resolve()
-        answers = built(tally, prefix, folder, "folding_answers")
+        made = {name: pool.submit(compiled, prefix, folder, name) for name in SOURCES}
+        answers = built(tally, "folding_answers", made["folding_answers"].result())
         told = answers and pool.submit(judged.judge_until, answers, ucd.package_files()[0], chosen.seconds, chosen.seed)
         for name in LEAST:
-            program = built(tally, prefix, folder, name)
+            program = built(tally, name, made[name].result())
             if program:
                 check_run(tally, name, words_of(name, program, folder, chosen), chosen)
         if told:

@@ -42,10 +42,10 @@ PLANTS = {
     "a byte is written where there is no room": Plant(4, KEY, SHARED),
     "an unassigned code point is told at the next byte": Plant(5, KEY, SHARED),
     "a caseless key is a key": Plant(6, KEY, (*SHARED, "opening", "folding_answers")),
-    "a text is folded before it is decomposed": Plant(20, KEY, ("texts", "opening")),
-    "a compatible key is folded once": Plant(21, KEY, ("texts", "opening")),
+    "a text is folded before it is decomposed": Plant(20, KEY, (*SHARED, "opening")),
+    "a compatible key is folded once": Plant(21, KEY, (*SHARED, "opening")),
     "a match compares forms only": Plant(30, MATCH, (*SHARED, "opening")),
-    "each match is compatible": Plant(31, MATCH, ("texts",)),
+    "each match is compatible": Plant(31, MATCH, SHARED),
     "the first of two texts is blamed": Plant(32, MATCH, SHARED),
     "a match tells what it has no use for": Plant(33, MATCH, SHARED),
     "answers to lines have plain keys": Plant(40, ANSWERS, SHARED),
@@ -74,7 +74,8 @@ PLANTS = {
 
 def is_found(tally, name, folder, plant, chosen):
     """Whether a fuzzer, or the reader beside the openings, finds the bug in time."""
-    program = fuzz.built(tally, chosen.prefix, folder, name, [fuzz.HERE / "planted.cc", f"-DPLANT={plant.number}", f"-Wl,--wrap={plant.call}"])
+    more = [fuzz.HERE / "planted.cc", f"-DPLANT={plant.number}", f"-Wl,--wrap={plant.call}"]
+    program = fuzz.built(tally, name, fuzz.compiled(chosen.prefix, folder, name, more))
     if program is None:
         return False
     if name == "folding_answers":

@@ -30,14 +30,14 @@ static void check_pair(const Question &asked, const std::string &left, const std
         disagree("equal caseless keys and a match", left + right);
 }
 
-/* A text beside its two halves, its capitals, its folding, its form, and itself with another last byte. */
+/* A text beside its two halves, its capitals, its folding, its NFKC, and itself with another last byte. */
 void check_caseless_match(const Question &asked) {
     const size_t cut = asked.extra % (asked.text.size() + 1);
     check_pair(asked, asked.text.substr(0, cut), asked.text.substr(cut));
     if (utf8_fault(asked.text).status != NPSS_DONE) return;
     std::string other = asked.text;
     if (!other.empty()) other.back() = static_cast<char>(other.back() ^ (1 << asked.extra % 8));
-    for (const std::string &beside : {raised(asked.text), folded(asked.text), normal_form(asked.form, asked.text), other})
+    for (const std::string &beside : {raised(asked.text), folded(asked.text), normal_form(NPSS_NFKC, asked.text), other})
         check_pair(asked, asked.text, beside);
 }
 

@@ -11,6 +11,9 @@ struct Files {
     std::string data, exclusions, folding;
 };
 
+/* So many edits of an input are made, and of so many bytes is a text at the least of which no more is wanted. */
+static const size_t MOST_EDITS = 64, MOST_CODES = 40;
+
 /* A line: where it begins, and where its LF stands. */
 struct Line {
     size_t start, end;
@@ -96,18 +99,18 @@ inline std::string codes_of(const std::string &data, size_t at) {
     return codes.toUTF8String(made);
 }
 
-/* The files with the edits that the bytes say, and a text of what was edited. */
+/* The files with the edits that the bytes say, and a text of what the first of them edited. */
 inline std::string edited(const uint8_t *bytes, size_t length, Files &files) {
     std::string *const all[] = {&files.data, &files.exclusions, &files.folding};
     std::string codes;
-    for (size_t at = 0; at + 6 <= length; at += 6) {
+    for (size_t at = 0; at + 6 <= std::min(length, 6 * MOST_EDITS); at += 6) {
         const uint8_t *six = bytes + at;
         std::string &of = *all[std::min(six[0] % 4, 2)];
         if (of.empty()) continue;
         const size_t place = static_cast<size_t>(six[1] << 16 | six[2] << 8 | six[3]) % of.size();
-        codes = codes_of(of, place);
+        if (codes.size() < MOST_CODES) codes += codes_of(of, place);
         edit(of, place, six[4], six[5]);
-        codes += codes_of(of, place);
+        if (codes.size() < MOST_CODES) codes += codes_of(of, place);
     }
     return codes;
 }
