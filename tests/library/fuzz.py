@@ -70,7 +70,7 @@ def reason():
     if missing():
         return f"not here: {' '.join(missing())}"
     files, why = ucd.package_files()
-    return why if files is None else None
+    return why if files is None else None if ucd.FOLDING in files else f"the package unicode-data has no {ucd.FOLDING}"
 
 
 def compiled(prefix, folder, name, more=()):
@@ -82,7 +82,7 @@ def compiled(prefix, folder, name, more=()):
     words = ["clang++", "-std=c++17", "-O1", "-g", "-Wall", "-Wextra", "-Werror", f"-fsanitize={checks}", "-fno-sanitize-recover=undefined",
              f"-I{prefix}/include", *sources, *more, prefix / "lib" / "libnpss.a", "-o", program, *icu]
     made = subprocess.run(list(map(str, words)), capture_output=True, text=True, check=False)
-    return program, made.stderr[-2000:] if made.returncode else ""
+    return program, made.returncode and (made.stderr[-2000:] or f"status {made.returncode}")
 
 
 def built(tally, name, made):
