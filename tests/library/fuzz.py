@@ -3,28 +3,32 @@
 
 PREFIX is where ./build-c installed the library, that of this tree where none is named. In turn, each for N seconds (default
 20): libFuzzer over the calls, whose answers are held against ICU's; texts that are made to be hard, the same way; and
-libFuzzer over npss_open, with small files and with edits of the published ones. ICU and Debian's package unicode-data
-have to be of one version. What is found is written to out/fuzz, and its name is told. The seed is told, too. With
---instrumented the library is first built once more, with its branches counted, which leads libFuzzer (tests/library/fuzz/instrumented.py).
+libFuzzer over npss_open and npss_open_caseless, with small files and with edits of a fixture and of the published ones.
+Beside them folding files that were edited are opened, and held against the reader of tests/models/folding_judge.py. ICU and
+Debian's package unicode-data have to be of one version. What is found is written to out/fuzz, and its name is told. The
+seed is told, too. With --instrumented the library is first built once more, with its branches counted, which leads libFuzzer
+(tests/library/fuzz/instrumented.py).
 
 Run as root it installs Debian's clang and libicu-dev where they are missing, unless NO_APT=1 is set. What can't run here is
 skipped, with the reason. Ends in a line 'N passed, M failed'.
 """
 
 import argparse
+import os
 import random
 import re
 import shutil
 import subprocess
 import sys
 import tempfile
+from concurrent.futures import ThreadPoolExecutor
 from pathlib import Path
 
 sys.path.insert(0, str(Path(__file__).resolve().parent.parent))
 
 import ucd
 import versions
-from harness import ROOT, Tally, install
+from harness import ROOT, Tally, install, shown
 
 HERE = ROOT / "tests" / "library" / "fuzz"
 # Nothing is written into the tree but out/fuzz.
@@ -32,14 +36,24 @@ sys.dont_write_bytecode = True
 sys.path.append(str(HERE))
 
 import instrumented
+import judged
 
 FOUND = ROOT / "out" / "fuzz"
+# The sources of each program.
+CALLS = ("calls", "caseless", "sequences")
+SOURCES = {"calls": CALLS, "texts": ("texts", *CALLS), "opening": ("opening",), "folding_answers": ("folding_answers",)}
+# Those that have a main of their own.
+PLAIN = ("texts", "folding_answers")
 # A fuzzer that ran fewer inputs in a second did nothing. An opening of the published files takes some 10 ms.
 LEAST = {"calls": 200, "texts": 200, "opening": 2}
+# Folding files that are judged in a second, at the least.
+LEAST_JUDGED = 20
 # How much longer than its time a run may take: a single input, and the end.
 PATIENCE = 120
 # The bytes of the longest input of libFuzzer.
 LONGEST = {"calls": 4096, "opening": 65536}
+# What libFuzzer puts into its inputs.
+DICTIONARIES = {"calls": "texts.dict", "opening": "folding.dict"}
 
 
 def missing():
@@ -56,45 +70,83 @@ def reason():
     if missing():
         return f"not here: {' '.join(missing())}"
     files, why = ucd.package_files()
-    return why if files is None else None
+    return why if files is None else None if ucd.FOLDING in files else f"the package unicode-data has no {ucd.FOLDING}"
 
 
-def built(tally, prefix, folder, name):
-    """A fuzzer, or the texts over that of the calls; None where it isn't built."""
+def compiled(prefix, folder, name, more=()):
+    """A fuzzer, or another program that stands beside them, with more words for the compiler; and why it isn't there."""
     program = folder / name
-    sources = [HERE / f"{name}.cc"] + ([HERE / "calls.cc"] if name == "texts" else [])
-    checks = "address,undefined" if name == "texts" else "fuzzer,address,undefined"
+    sources = [HERE / f"{source}.cc" for source in SOURCES[name]]
+    checks = "address,undefined" if name in PLAIN else "fuzzer,address,undefined"
     icu = subprocess.run(["pkg-config", "--cflags", "--libs", "icu-uc"], check=True, capture_output=True, text=True).stdout.split()
     words = ["clang++", "-std=c++17", "-O1", "-g", "-Wall", "-Wextra", "-Werror", f"-fsanitize={checks}", "-fno-sanitize-recover=undefined",
-             f"-I{prefix}/include", *sources, prefix / "lib" / "libnpss.a", "-o", program, *icu]
+             f"-I{prefix}/include", *sources, *more, prefix / "lib" / "libnpss.a", "-o", program, *icu]
     made = subprocess.run(list(map(str, words)), capture_output=True, text=True, check=False)
-    return program if tally.check(f"{name} is built", made.returncode == 0, made.stderr[-2000:]) else None
+    return program, made.returncode and (made.stderr[-2000:] or f"status {made.returncode}")
+
+
+def built(tally, name, made):
+    """A program that was compiled; None where it wasn't."""
+    program, why = made
+    return program if tally.check(f"{name} is built", not why, why) else None
 
 
 def seeds(folder):
-    """Inputs to begin with: the two files of each fixture, and an edit of the published ones."""
+    """Inputs to begin with: the files of each fixture, two of them and three, those at the edges, and edits of the published ones."""
     at = folder / "seeds"
     at.mkdir()
-    for number, version in enumerate((versions.V1, versions.V2)):
-        (at / str(number)).write_bytes(b"\xff".join((ROOT / "fixtures" / name).read_bytes() for name in version))
-    (at / "edit").write_bytes(bytes([1, 0, 0, 40, 0, 0, 65]))
+    foldings = ROOT / "fixtures" / "caseless"
+    for number, version in enumerate((versions.V1, versions.V2), 1):
+        two = b"\xff".join((ROOT / "fixtures" / name).read_bytes() for name in version)
+        (at / str(number)).write_bytes(two)
+        (at / f"caseless-{number}").write_bytes(two + b"\xff" + (foldings / f"v{number}" / ucd.FOLDING).read_bytes())
+    for edge in (foldings / "edges").glob("[0-9]*.txt"):
+        (at / edge.stem).write_bytes((at / "1").read_bytes() + b"\xff" + edge.read_bytes())
+    for number, edit in enumerate(([1, 0, 0, 40, 0, 0, 65], [1, 2, 0, 40, 0, 12, 2], *([2, 2, 0, 60, 0, how, 33] for how in range(16)))):
+        (at / f"edit-{number}").write_bytes(bytes(edit))
     return at
+
+
+def words_of(name, program, folder, chosen):
+    """The words by which a fuzzer is run."""
+    if name in PLAIN:
+        return [program, chosen.seconds, chosen.seed]
+    words = [program, f"-max_total_time={chosen.seconds}", f"-seed={chosen.seed}", f"-max_len={LONGEST[name]}", "-print_final_stats=1",
+             "-timeout=60", f"-artifact_prefix={FOUND}/{name}-", f"-dict={HERE / DICTIONARIES[name]}"]
+    return [*words, seeds(folder)] if name == "opening" else words
+
+
+def ran(words, chosen):
+    """A run that has ended, with what it told; None where it came to no end."""
+    try:
+        return subprocess.run(list(map(str, words)), stdin=subprocess.DEVNULL, capture_output=True, text=True, errors="replace",
+                              timeout=chosen.seconds + PATIENCE, env={**os.environ, "FIXTURES": str(ROOT / "fixtures")}, check=False)
+    except subprocess.TimeoutExpired:
+        return None
 
 
 def check_run(tally, name, words, chosen):
     """A run to the end of its time, of enough inputs."""
-    try:
-        ran = subprocess.run(list(map(str, words)), stdin=subprocess.DEVNULL, capture_output=True, text=True, errors="replace",
-                             timeout=chosen.seconds + PATIENCE, check=False)
-    except subprocess.TimeoutExpired:
-        tally.check(name, False, "no end")
+    done = ran(words, chosen)
+    if not tally.check(name, done, "no end"):
         return
-    if not tally.check(name, ran.returncode == 0, f"status {ran.returncode}, seed {chosen.seed}: {(ran.stdout + ran.stderr)[-3000:]}"):
+    if not tally.check(name, done.returncode == 0, f"status {done.returncode}, seed {chosen.seed}: {(done.stdout + done.stderr)[-3000:]}"):
         return
-    told = re.search(r"^(?:stat::number_of_executed_units:\s*)?(\d+)$", ran.stdout + ran.stderr, re.MULTILINE)
+    told = re.search(r"^(?:stat::number_of_executed_units:\s*)?(\d+)$", done.stdout + done.stderr, re.MULTILINE)
     inputs = int(told[1]) if told else 0
     tally.check(f"{name}: inputs", inputs >= LEAST[name] * chosen.seconds, f"{inputs} in {chosen.seconds} s")
-    print(f"{name}: {inputs} inputs in {chosen.seconds} s")
+    print(f"{name}: {inputs} inputs in {chosen.seconds} s", flush=True)
+
+
+def check_judged(tally, told, chosen):
+    """Folding files that were opened and judged, enough of them, and no two answers; that of one with two is kept."""
+    count, differing = told
+    if differing:
+        (FOUND / "judged").write_bytes(differing[1])
+        differing = f"{FOUND}/judged beside version {differing[0]}, seed {chosen.seed}: got {shown(differing[2])}, want {shown(differing[3])}"
+    tally.check("folding files beside their reader", differing is None, differing)
+    tally.check("folding files: inputs", differing or count >= LEAST_JUDGED * chosen.seconds, f"{count} in {chosen.seconds} s")
+    print(f"folding files beside their reader: {count} in {chosen.seconds} s", flush=True)
 
 
 def main():
@@ -110,17 +162,18 @@ def main():
         tally.finish()
     print(f"seed {chosen.seed}", flush=True)
     FOUND.mkdir(parents=True, exist_ok=True)
-    with tempfile.TemporaryDirectory() as room:
+    with tempfile.TemporaryDirectory() as room, ThreadPoolExecutor() as pool:
         folder = Path(room)
         prefix = instrumented.library_below(folder) if chosen.instrumented else chosen.prefix.resolve()
+        made = {name: pool.submit(compiled, prefix, folder, name) for name in SOURCES}
+        answers = built(tally, "folding_answers", made["folding_answers"].result())
+        told = answers and pool.submit(judged.judge_until, answers, ucd.package_files()[0], chosen.seconds, chosen.seed)
         for name in LEAST:
-            program = built(tally, prefix, folder, name)
-            words = [program, chosen.seconds, chosen.seed]
-            if name != "texts":
-                words = [program, f"-max_total_time={chosen.seconds}", f"-seed={chosen.seed}", f"-max_len={LONGEST[name]}", "-print_final_stats=1",
-                         "-timeout=60", f"-artifact_prefix={FOUND}/{name}-", *([seeds(folder)] if name == "opening" else [])]
+            program = built(tally, name, made[name].result())
             if program:
-                check_run(tally, name, words, chosen)
+                check_run(tally, name, words_of(name, program, folder, chosen), chosen)
+        if told:
+            check_judged(tally, told.result(), chosen)
     tally.finish()
 
 

@@ -3,6 +3,7 @@
 #define ORACLE_H
 #include <npss.h>
 #include <unicode/bytestream.h>
+#include <unicode/casemap.h>
 #include <unicode/normalizer2.h>
 #include <unicode/uchar.h>
 #include <unicode/utf8.h>
@@ -43,6 +44,12 @@ inline const char *ucd() {
     return named ? named : "/usr/share/unicode";
 }
 
+/* A file of the folder of fixtures: the environment variable FIXTURES, else where the run begins. */
+inline std::string fixture(const std::string &name) {
+    const char *named = std::getenv("FIXTURES");
+    return file(named ? named : "fixtures", name.c_str());
+}
+
 inline const icu::Normalizer2 &normalizer(uint8_t form) {
     UErrorCode error = U_ZERO_ERROR;
     const icu::Normalizer2 *found = form == NPSS_NFD    ? icu::Normalizer2::getNFDInstance(error)
@@ -62,9 +69,48 @@ inline std::string normal_form(uint8_t form, const std::string &text) {
     return made;
 }
 
+/* Whether what is compared under a form is compatible equivalents. */
+inline bool is_compatible(uint8_t form) {
+    return form == NPSS_NFKD || form == NPSS_NFKC;
+}
+
+/* A text whose code points are folded, one by one: what the lines of status C and F of CaseFolding.txt say. */
+inline std::string folded(const std::string &text) {
+    std::string made;
+    icu::StringByteSink<std::string> sink(&made);
+    UErrorCode error = U_ZERO_ERROR;
+    icu::CaseMap::utf8Fold(U_FOLD_CASE_DEFAULT, text, sink, nullptr, error);
+    if (U_FAILURE(error)) std::abort();
+    return made;
+}
+
+/* A text in capitals, which mostly matches it caselessly. */
+inline std::string raised(const std::string &text) {
+    std::string made;
+    icu::StringByteSink<std::string> sink(&made);
+    UErrorCode error = U_ZERO_ERROR;
+    icu::CaseMap::utf8ToUpper("", 0, text, sink, nullptr, error);
+    if (U_FAILURE(error)) std::abort();
+    return made;
+}
+
+/* The caseless form of a text (The Unicode Standard, D145 for NFD and NFC, D146 for the other two): its caseless key where
+ * each code point is assigned. Two texts match caselessly where their forms under NFD, or NFKD, are one. */
+inline std::string caseless_form(uint8_t form, const std::string &text) {
+    std::string made = folded(normal_form(NPSS_NFD, text));
+    if (is_compatible(form)) made = folded(normal_form(NPSS_NFKD, made));
+    return normal_form(form, made);
+}
+
 /* The answer of a status that tells a place and a code point. */
 inline npss_answer answer(uint32_t status, uint64_t place = 0, uint32_t code = 0) {
     npss_answer a = {status, 0, code, place, 0};
+    return a;
+}
+
+/* The answer of a status alone, or with what it tells by a number. */
+inline npss_answer alone(uint32_t status, uint32_t fault = 0) {
+    npss_answer a = {status, fault, 0, 0, 0};
     return a;
 }
 

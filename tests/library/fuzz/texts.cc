@@ -1,5 +1,5 @@
 /* texts SECONDS SEED: texts that are made to be hard, given to the fuzzer of the calls. What is frequent in them changes
- * something: code points that decompose, the parts of decompositions, non-starters, jamo. */
+ * something: code points that decompose or fold, the parts of decompositions and foldings, non-starters, jamo. */
 #include <ctime>
 #include <random>
 #include <vector>
@@ -8,6 +8,9 @@
 
 extern "C" int LLVMFuzzerInitialize(int *, char ***);
 extern "C" int LLVMFuzzerTestOneInput(const uint8_t *, size_t);
+
+/* How many bytes of an input stand before its text. */
+static const size_t HEAD = 3;
 
 static std::mt19937_64 random_numbers;
 
@@ -19,6 +22,10 @@ static UChar32 any_of(const std::vector<UChar32> &codes) {
     return codes[below(codes.size())];
 }
 
+/* Those around which it tells whether marks are ordered, decomposed or folded first. */
+static const std::vector<UChar32> turning = {0x345, 0x37A, 0x3B9, 0x399, 0x1FBE, 0x3B1, 0x301, 0x323, 0x49,   0x130,  0xDF,   0x1E9E, 0x3F9, 0xFF9E,
+                                             0xFF9F, 0x3099, 0xFF76, 0x13A0, 0xAB70, 0x1C90, 0x10D0, 0xFB01, 0x2121, 0x1FB3, 0x1FB4, 0x10400};
+
 static void put(std::string &text, UChar32 code) {
     uint8_t spelled[4];
     int32_t length = 0;
@@ -28,7 +35,7 @@ static void put(std::string &text, UChar32 code) {
 
 /* The code points of ICU's version, by what makes them hard. */
 struct Codes {
-    std::vector<UChar32> decomposing, parts, marks, assigned, unassigned;
+    std::vector<UChar32> decomposing, parts, marks, folding, folded_to, assigned, unassigned;
 
     Codes() {
         const icu::Normalizer2 &nfkd = normalizer(NPSS_NFKD);
@@ -37,10 +44,21 @@ struct Codes {
             if (U_IS_SURROGATE(code)) continue;
             (u_charType(code) == U_UNASSIGNED ? unassigned : assigned).push_back(code);
             if (u_getCombiningClass(code)) marks.push_back(code);
+            add_folding(code);
             if (u_getIntPropertyValue(code, UCHAR_HANGUL_SYLLABLE_TYPE) != U_HST_NOT_APPLICABLE || !nfkd.getDecomposition(code, parted)) continue;
             decomposing.push_back(code);
             for (int32_t at = 0; at < parted.length(); at = parted.moveIndex32(at, 1)) parts.push_back(parted.char32At(at));
         }
+    }
+
+    void add_folding(UChar32 code) {
+        std::string spelled;
+        put(spelled, code);
+        const std::string made = folded(spelled);
+        if (made == spelled) return;
+        folding.push_back(code);
+        const icu::UnicodeString to = icu::UnicodeString::fromUTF8(made);
+        for (int32_t at = 0; at < to.length(); at = to.moveIndex32(at, 1)) folded_to.push_back(to.char32At(at));
     }
 
     /* A leading, vowel or trailing jamo, or a syllable, also right beside those that compose. */
@@ -50,22 +68,36 @@ struct Codes {
         return static_cast<UChar32>(kind < 9 ? 0x1100 + below(19) : kind < 14 ? 0x1161 + below(21) : kind < 17 ? 0x11A7 + below(28) : 0xAC00 + below(11172));
     }
 
+    /* What folds, what is folded to, or what stands between. */
+    UChar32 cased() const {
+        const size_t kind = below(4);
+        return any_of(kind == 0 ? folding : kind == 1 ? folded_to : kind == 2 ? turning : marks);
+    }
+
     UChar32 mixed() const {
-        const size_t kind = below(20);
+        const size_t kind = below(24);
         if (kind < 5) return any_of(decomposing);
         if (kind < 10) return any_of(parts);
         if (kind < 14) return any_of(marks);
         if (kind < 15) return any_of(assigned);
         if (kind < 16) return hangul();
         if (kind < 17) return below(2) ? '\n' : 0;
-        return static_cast<UChar32>(kind < 19 ? 0x20 + below(95) : 0xC0 + below(0x300));
+        if (kind < 21) return cased();
+        return static_cast<UChar32>(kind < 23 ? 0x20 + below(95) : 0xC0 + below(0x300));
     }
 
-    /* A text of so many code points: of marks, of Hangul, with unassigned ones, or of all. */
+    UChar32 of_kind(size_t kind) const {
+        if (kind == 0) return any_of(marks);
+        if (kind == 1) return hangul();
+        if (kind < 4) return cased();
+        return kind == 4 && below(10) == 0 ? any_of(unassigned) : mixed();
+    }
+
+    /* A text of so many code points: of marks, of Hangul, of what folds, with unassigned ones, or of all. */
     std::string text(size_t count) const {
-        const size_t kind = below(8);
+        const size_t kind = below(10);
         std::string made;
-        while (count--) put(made, kind == 0 ? any_of(marks) : kind == 1 ? hangul() : kind == 2 && below(10) == 0 ? any_of(unassigned) : mixed());
+        while (count--) put(made, of_kind(kind));
         return made;
     }
 };
@@ -85,11 +117,11 @@ int main(int count, char **words) {
     const std::time_t begun = std::time(nullptr);
     unsigned long made = 0;
     while (std::difftime(std::time(nullptr), begun) < seconds) {
-        std::string input = {static_cast<char>(below(256)), static_cast<char>(below(256))};
+        std::string input = {static_cast<char>(below(256)), static_cast<char>(below(256)), static_cast<char>(below(256))};
         input += codes.text(length());
         /* A byte is wrong, or the last one is missing. */
-        if (input.size() > 2 && below(20) == 0) input[2 + below(input.size() - 2)] = static_cast<char>(below(256));
-        if (input.size() > 2 && below(60) == 0) input.pop_back();
+        if (input.size() > HEAD && below(20) == 0) input[HEAD + below(input.size() - HEAD)] = static_cast<char>(below(256));
+        if (input.size() > HEAD && below(60) == 0) input.pop_back();
         LLVMFuzzerTestOneInput(bytes(input), input.size());
         made++;
     }

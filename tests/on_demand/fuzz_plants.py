@@ -1,0 +1,110 @@
+#!/usr/bin/env python3
+"""tests/on_demand/fuzz_plants.py [--only WORDS..] [--seconds N] [--seed S] [PREFIX]: plants bugs that the fuzzers of tests/library/fuzz have to find.
+
+Each bug stands before a call of the library for C (tests/library/fuzz/planted.cc). Each fuzzer that is meant to find it has N seconds for
+that (default 20). WORDS choose the bugs whose names have them. PREFIX is where ./build-c installed the library, that of this tree where
+none is named. On demand: not called by ./test; a quarter of an hour. Ends in a line 'N passed, M failed'.
+"""
+
+import argparse
+import random
+import sys
+import tempfile
+import time
+from pathlib import Path
+from typing import NamedTuple
+
+sys.path.insert(0, str(Path(__file__).resolve().parent.parent))
+
+from harness import ROOT, Tally
+from library import fuzz
+import ucd
+
+SHARED = ("calls", "texts")
+# The status of a fuzzer that lacks its files.
+NO_FILES = 9
+KEY, MATCH, ANSWERS, FOLDING, EXTENDS, OPEN = (
+    f"npss_{call}" for call in ("caseless_key", "caseless_match", "caseless_answers", "folding", "caseless_extends", "open_caseless"))
+
+
+class Plant(NamedTuple):
+    """A bug by its number in planted.cc, the call before which it stands, and the programs that have to find it."""
+
+    number: int
+    call: str
+    finders: tuple
+
+
+PLANTS = {
+    "a caseless key loses its last byte": Plant(1, KEY, (*SHARED, "opening", "folding_answers")),
+    "a refused room isn't told how much is needed": Plant(2, KEY, SHARED),
+    "a byte is written behind a caseless key": Plant(3, KEY, SHARED),
+    "a byte is written where there is no room": Plant(4, KEY, SHARED),
+    "an unassigned code point is told at the next byte": Plant(5, KEY, SHARED),
+    "a caseless key is a key": Plant(6, KEY, (*SHARED, "opening", "folding_answers")),
+    "a text is folded before it is decomposed": Plant(20, KEY, (*SHARED, "opening")),
+    "a compatible key is folded once": Plant(21, KEY, (*SHARED, "opening")),
+    "a match compares forms only": Plant(30, MATCH, (*SHARED, "opening")),
+    "each match is compatible": Plant(31, MATCH, SHARED),
+    "the first of two texts is blamed": Plant(32, MATCH, SHARED),
+    "a match tells what it has no use for": Plant(33, MATCH, SHARED),
+    "answers to lines have plain keys": Plant(40, ANSWERS, SHARED),
+    "a refused line isn't told": Plant(41, ANSWERS, SHARED),
+    "a byte that ends no lines is told before the folding that isn't there": Plant(42, ANSWERS, SHARED),
+    "an unassigned code point isn't named": Plant(50, FOLDING, SHARED),
+    "110000 is a code point": Plant(51, FOLDING, ("calls",)),
+    "a folding is cut": Plant(52, FOLDING, SHARED),
+    "an audit passes over foldings": Plant(60, EXTENDS, ("calls",)),
+    "an audit looks the other way": Plant(61, EXTENDS, ("calls",)),
+    "of two handles the first one is blamed": Plant(62, EXTENDS, SHARED),
+    "a mark isn't folded": Plant(70, OPEN, SHARED),
+    "a byte order mark is passed over": Plant(71, OPEN, ("folding_answers",)),
+    "tabs are no blanks": Plant(72, OPEN, ("folding_answers",)),
+    "the last line is lost": Plant(73, OPEN, ("folding_answers",)),
+    "simple foldings are full ones": Plant(74, OPEN, ("calls", "folding_answers")),
+    "an opening tells another file": Plant(75, OPEN, ("calls", "opening", "folding_answers")),
+    "an opening tells another line": Plant(76, OPEN, ("folding_answers",)),
+    "another condition is told": Plant(77, OPEN, ("opening", "folding_answers")),
+    "a refused opening closes its handle": Plant(78, OPEN, ("calls", "opening")),
+    "the tables are told otherwise": Plant(79, OPEN, ("opening",)),
+    "a folding of another version is let in": Plant(80, OPEN, ("opening", "folding_answers")),
+    "a condition tells what it has no use for": Plant(81, OPEN, ("opening", "folding_answers")),
+}
+
+
+def is_found(tally, name, folder, plant, chosen):
+    """Whether a fuzzer, or the reader beside the openings, finds the bug in time."""
+    more = [fuzz.HERE / "planted.cc", f"-DPLANT={plant.number}", f"-Wl,--wrap={plant.call}"]
+    program = fuzz.built(tally, name, fuzz.compiled(chosen.prefix, folder, name, more))
+    if program is None:
+        return False
+    if name == "folding_answers":
+        return fuzz.judged.judge_until(program, ucd.package_files()[0], chosen.seconds, chosen.seed)[1] is not None
+    done = fuzz.ran(fuzz.words_of(name, program, folder, chosen), chosen)
+    return done is not None and done.returncode not in (0, NO_FILES)
+
+
+def main():
+    parser = argparse.ArgumentParser(description="plants bugs that the fuzzers have to find")
+    parser.add_argument("--only", default=[""], nargs="+", metavar="WORDS", help="the bugs alone whose names have one of these in them")
+    parser.add_argument("--seconds", type=int, default=20, help="how long each fuzzer may take (default 20)")
+    parser.add_argument("--seed", type=int, default=random.randrange(1, 1 << 31))
+    parser.add_argument("prefix", type=Path, nargs="?", default=ROOT / "out" / "c", help="where ./build-c installed the library")
+    chosen = parser.parse_args()
+    tally, why = Tally(), fuzz.reason()
+    if why:
+        sys.exit(f"tests/on_demand/fuzz_plants.py: {why}")
+    chosen.prefix = chosen.prefix.resolve()
+    print(f"seed {chosen.seed}", flush=True)
+    for bug, plant in PLANTS.items():
+        for name in plant.finders if any(some in bug for some in chosen.only) else ():
+            with tempfile.TemporaryDirectory() as folder:
+                begun = time.monotonic()
+                found = is_found(tally, name, Path(folder), plant, chosen)
+                tally.check(f"{bug}: {name}", found, f"survived, seed {chosen.seed}")
+                print(f"{bug}: {name}: {'found' if found else 'survived'} after {time.monotonic() - begun:.0f} seconds", flush=True)
+    tally.finish()
+
+
+if __name__ == "__main__":
+    main()
