@@ -36,7 +36,8 @@ DONE, NO, REFUSED, FAULTY, AWAY = 0, 1, 3, 4, 5
 INTERRUPTED, NOBODY_READS = 130, 141
 # What the places of a command are.
 PLACES = {"store": "the file of the store", "data": "UnicodeData.txt of the version", "exclusions": "its CompositionExclusions.txt",
-          "folding": "its CaseFolding.txt, where the log is caseless", "name": "a name", "left": "a registered name", "right": "another one", "to": "the new file"}
+          "folding": "its CaseFolding.txt, where the log is caseless", "name": "a name", "left": "a registered name", "right": "another one",
+          "to": "the new file"}
 
 _PROGRAM = "the program npss; beside it are looked for npss_lines and npss_caseless, which a caseless log wants"
 

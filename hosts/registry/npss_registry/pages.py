@@ -72,9 +72,9 @@ def home(told: Overview) -> str:
         f'<h2>Who has a name?</h2><form method="post" action="/search">{_field("name", "Name")}<button>Search</button></form>',
         f'<h2>Are two names the same?</h2><form method="post" action="/why">{_field("left", "One")}{_field("right", "Other")}'
         f"<button>Compare</button></form><p>{_note(told.caseless)}</p>",
-        f"<h2>This node</h2><p>Node <span class=code>{escape(told.node)}</span>, {'caseless, ' if told.caseless else ''}form {escape(told.form.upper())}; its version of Unicode "
-        f"assigns {told.assigned} code points. A parked name has a code point that this version lacks: it is registered, and is taken after "
-        f"an upgrade.</p>{_log(told)}{status}{_parked(told)}", home=True)
+        f"<h2>This node</h2><p>Node <span class=code>{escape(told.node)}</span>, {'caseless, ' if told.caseless else ''}form "
+        f"{escape(told.form.upper())}; its version of Unicode assigns {told.assigned} code points. A parked name has a code point that this "
+        f"version lacks: it is registered, and is taken after an upgrade.</p>{_log(told)}{status}{_parked(told)}", home=True)
 
 
 def _log(told: Overview) -> str:

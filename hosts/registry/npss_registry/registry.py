@@ -75,7 +75,8 @@ def check_files(version: Version, setup: Setup) -> None:
     if setup.caseless and version.folding is None:
         raise StoreError("the log is caseless: a version has a third file there, CaseFolding.txt, behind the other two")
     if not setup.caseless and version.folding is not None:
-        raise StoreError("the log is not caseless: a version has two files there, and no CaseFolding.txt; `npss-registry init --caseless` begins a log that is")
+        raise StoreError("the log is not caseless: a version has two files there, and no CaseFolding.txt; `npss-registry init --caseless` "
+                         "begins a log that is")
 
 
 def told(setup: Setup) -> str:

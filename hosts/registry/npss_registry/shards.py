@@ -107,7 +107,7 @@ class Shard:
             if isinstance(record, Forget):
                 ended += row is not None and row.ended == place
             elif row is not None:
-                if not isinstance(record, Claim) or (row.string, row.key, row.owner, row.caseless) != (record.string, record.key, record.owner, record.caseless):
+                if not isinstance(record, Claim) or self._claim_made(row) != record:
                     raise LogBroken(place, f"the store has {row.string!r} of {row.owner!r} from it; see `npss-registry relog`")
                 made += 1
             if place > image_place:
