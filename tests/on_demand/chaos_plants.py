@@ -23,7 +23,7 @@ from harness import ROOT, Tally, programs_in
 # What chaos runs over, in turn, and its first seed, one of a registry that refuses equivalents.
 RUNS, SEED = (("sqlite", "nfkc"), ("redis", "nfc"), ("sqlite", "nfc"), ("redis", "nfkc")), 3
 # The bugs of which chaos has to run over a caseless log.
-CASELESS = ("a parked name counts by its key", "a shard goes by the key")
+CASELESS = ("a parked name counts by its key", "a shard goes by the key", "names are one by their keys")
 # For each bug its file, a text that stands there once, and what stands there in its place; or several of both. Behind some stands
 # a test that finds it too, where a busy machine leaves chaos too few claims.
 PLANTS = {
@@ -57,8 +57,8 @@ PLANTS = {
         if refused:
             return Outcome("full")
         new =""", "Versions.test_a_record_with_a_code_point_that_is_missing_is_parked"),
-    "a parked key is not counted": ("shards.py", """self._store.holder_of_key(self.number, claim.key)""",
-                                    """next((one for one in self._store.with_key(self.number, claim.key) if one.string == claim.string or not one.parked), None)""",
+    "a parked key is not counted": ("shards.py", """self._store.holder_of_key(self.number, claim.unique)""",
+                                    """next((one for one in self._store.with_key(self.number, claim.unique) if one.string == claim.string or not one.parked), None)""",
                                     "Versions.test_a_lagging_node_does_not_give_away_a_key_of_a_parked_name"),
     "a forget without its place": ("shards.py", """self._store.at(self.number, forget.place)
         if""", """next((one for one in self._store.registrations(self.number) if one.string == forget.string), None)
@@ -77,14 +77,15 @@ PLANTS = {
         shard.apply(piece)
         shard.check_end()
 """, ""),
-    "a parked name counts by its key": ("store.py", """        return _BY_CASELESS_KEY if self.setup.caseless else _BY_KEY
-""", """        return _BY_CASELESS_KEY.replace("caseless = ?", "CASE WHEN parked THEN key ELSE caseless END = ?").replace("INDEXED BY registered_caseless", "") if self.setup.caseless else _BY_KEY
-""", "CaselessVersions.test_a_lagging_node_counts_the_caseless_key_of_a_parked_name"),
-    "a shard goes by the key": ("records.py", """        return self.key if self.caseless is None else self.caseless
+    "a parked name counts by its key": ("shards.py", """self._store.holder_of_key(self.number, claim.unique)""",
+                                        """next((one for one in self._store.registrations(self.number) if (one.key if one.parked else one.caseless) == claim.unique), None)""",
+                                        "CaselessVersions.test_a_lagging_node_counts_the_caseless_key_of_a_parked_name"),
+    "a shard goes by the key": ("registry.py", "self._shard_of(claim.unique), claim))", "self._shard_of(claim.key), claim))", "Caseless.test_many_claims_at_once"),
+    "names are one by their keys": ("records.py", """        return self.key if self.caseless is None else self.caseless
 
 """, """        return self.key
 
-""", "Caseless.test_many_claims_at_once"),
+""", "Caseless.test_names_are_one_where_their_caseless_keys_are"),
     "relog writes no end": ("relog.py", """            _write_end(log, store.setup.shards, shown(self._target))
 """, ""),
 }
@@ -95,7 +96,7 @@ TESTED = {
 """, "Setups.test_another_registrys_log_in_the_same_place"),
     "a parked flag is not compared": ("judge.py", """            self._compare_parked(course, store)
 """, "", "Judging.test_a_parked_flag_is_compared"),
-    "a record is not examined that comes to taken": ("examine.py", """        if self._key(claim.string) not in (None, claim.key):
+    "a record is not examined that comes to taken": ("examine.py", """        if self._made(False, claim.string) not in (None, claim.key):
 """, """        if False:
 """, "Examined.test_a_wrong_key_of_a_claim_that_comes_to_taken"),
     "a caseless key that a record carries is not compared": ("examine.py", """        if self.setup.caseless and self._made(True, claim.string) not in (None, claim.caseless):
