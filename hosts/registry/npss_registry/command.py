@@ -235,7 +235,10 @@ def parser() -> argparse.ArgumentParser:
     def command(name: str, help: str, *places: str) -> argparse.ArgumentParser:
         one = commands.add_parser(name, help=help, description=help)
         for place in places:
-            one.add_argument(place, metavar=place.upper(), help=PLACES[place], nargs="?" if place == "folding" else None)
+            if place == "folding":
+                one.add_argument(place, metavar=place.upper(), help=PLACES[place], nargs="?")
+            else:
+                one.add_argument(place, metavar=place.upper(), help=PLACES[place])
         return one
 
     one = command("init", "makes a store over a log, which it sets up where nobody has", "store", "data", "exclusions", "folding")

@@ -217,7 +217,9 @@ class CaselessTrims(CaselessCase):
         self.log = new
         self.assertEqual([json.loads(body).get("caseless") for _, body in self.bodies()], [True, "a", "aa", "\u00e2", "ii"])
         self.assertEqual([self.rows(path) for path in paths], [rows] * 2)
-        self.assertEqual([self.open(paths[1]).claim(name, "y").what for name in ("a", "\u00e2")], ["taken", "taken"])
+        node = self.open(paths[1])
+        self.assertEqual([node.claim(name, "y").what for name in ("a", "\u00e2")], ["taken", "taken"])
+        node.close()
         self.assertEqual(relog(paths, new).lost, [])
         self.assertEqual(self.judged(*paths), [])
 
