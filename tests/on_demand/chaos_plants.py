@@ -114,7 +114,7 @@ TESTED = {
     "the program's caseless keys are not compared": ("judge.py", """        self._compare_caseless(shard, ledger, stores)
 """, "", "CaselessJudging.test_what_another_program_makes_is_seen"),
     "a row's caseless key is not compared": ("judge.py", "    return (one.key,) if one.caseless is None else (one.key, one.caseless)\n", "    return (one.key,)\n",
-                                             "CaselessJudging.test_a_change_of_a_caseless_key_is_seen"),
+                                             "CaselessJudging.test_names_that_no_version_has_in_full"),
     "a version is audited without its folding": ("registry.py", "tables.first_break(self.tables, self.setup.caseless)", "tables.first_break(self.tables)",
                                                  "CaselessVersions.test_a_version_is_audited_with_its_folding"),
     "names are the same by their keys": ("registry.py", "if first != second or self.setup.caseless:", "if first != second:",

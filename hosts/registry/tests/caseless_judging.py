@@ -110,6 +110,9 @@ class CaselessJudging(CaselessCase):
         self.assertEqual((judge.run(), judge.unjudged), ([], {YOUNG_A + "\u0302"}))
         judge.close()
         self.assertEqual(self.judged(old.store.path, new.store.path), [])
+        # No program makes its caseless key, and the log has it.
+        changed(old.store.path, "UPDATE registration SET caseless = CAST('i' AS BLOB) WHERE parked")
+        self.assertRegex("\n".join(self.judged(old.store.path)), "at place 3 the log has .*'\u00e2'.*, the store .*'i'")
 
     def test_stores_of_two_kinds(self):
         one = self.node("one")
