@@ -218,7 +218,7 @@ class EveryLog(LogTrims):
         third = f"{tempfile.mkdtemp(dir=self.folder)}/store"
         init(third, version(FOLDED_NEW), None, self.log)
         node = self.node(third)
-        self.assertEqual([node.claim(name, "z").holder.string for name in ("A", "A\u030a", "f", "AA", "I")], [YOUNG_A, "\u212b", "f", "aa", "f"])
+        self.assertEqual([node.claim(name, "z").holder.string for name in ("A", "A\u030a", "f", "AA", "i")], [YOUNG_A, "\u212b", "f", "aa", "f"])
         node.close()
         judge = Judge([*paths, third], PROGRAM)
         self.addCleanup(judge.close)
