@@ -33,6 +33,19 @@ def built_program(name="npss"):
     return ROOT / "crates" / name / "out" / name if done.returncode == 0 else None
 
 
+def programs_in(folder, program):
+    """A program npss that has npss_lines and npss_caseless beside it, as an installation has: in this tree, where they stand apart, by links in a folder."""
+    program = Path(program).resolve()
+    others = ("npss_lines", "npss_caseless")
+    if all(program.with_name(name).exists() for name in others):
+        return program
+    for name in others:
+        built = ROOT / "crates" / name / "out" / name
+        (folder / name).symlink_to(built if built.exists() else built_program(name) or built)
+    (folder / "npss").symlink_to(program)
+    return folder / "npss"
+
+
 def run(program, words, stdin=b"", folder=None, **options):
     """The run of the program with these words: its status and what it wrote.
 

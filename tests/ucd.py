@@ -154,6 +154,21 @@ def write_cut(files, newest, folder):
     return [str(name) for name in names], kept
 
 
+def cut_folding(folding, kept):
+    """The text of CaseFolding.txt for the code points of the set that fold to some of the set."""
+    lines = [[field.strip() for field in line.split(";")] for line in contents(folding)]
+    return "".join(f"{code}; {status}; {mapping};\n" for code, status, mapping, *_ in lines
+                   if {int(code, 16), *(int(word, 16) for word in mapping.split())} <= kept)
+
+
+def write_cut_folding(files, newest, folder):
+    """Writes the folding file of a version of that age into a folder: its name."""
+    kept = codes_until(text_of(files, "DerivedAge.txt"), newest)
+    name = folder / f"{'.'.join(map(str, newest))}-{FOLDING}"
+    name.write_text(cut_folding(text_of(files, FOLDING), kept), encoding="utf-8")
+    return str(name)
+
+
 def test_strings(text):
     """The lines of the text of NormalizationTest.txt: for each its number, the strings of its five
     columns, and whether it stands in part 1, which lists single code points."""

@@ -1,8 +1,9 @@
 #!/usr/bin/env python3
-"""tests/hosts/chaos.py [--seconds N] [--seed S] [--log sqlite|redis|postgres|etcd] [--form nfc|nfkc] [--within N] PROGRAM: five nodes
-of a registry that are killed, cut off and upgraded.
+"""tests/hosts/chaos.py [--seconds N] [--seed S] [--log sqlite|redis|postgres|etcd] [--form nfc|nfkc] [--caseless] [--within N] PROGRAM:
+five nodes of a registry that are killed, cut off and upgraded.
 
-PROGRAM is npss, with which the judge replays. The nodes are processes of their own (chaos_node.py), whose versions are
+PROGRAM is npss, with which the judge replays. With --caseless names that fold alike are one: they are claimed in several cases, and all that is said of
+keys here is said of caseless keys. The nodes are processes of their own (chaos_node.py), whose versions are
 13.0, 14.0 and 15.0 of the published files, the earlier two cut from the last. Each ends itself at a write to store or
 log that the seed draws; the log's servers are killed, stopped and started again, a standby of PostgreSQL is promoted
 (chaos_servers.py), and nodes are cut off from them by proxies that drop; nodes are upgraded in any order; names are claimed at all nodes at once, given up, and claimed again. Names with young
@@ -31,7 +32,7 @@ from pathlib import Path
 sys.path.insert(0, str(Path(__file__).resolve().parent.parent))
 
 import ucd
-from harness import Tally
+from harness import Tally, programs_in
 
 from chaos_history import History, keys_of, try_checker
 from chaos_log import check_log_faults
@@ -51,6 +52,9 @@ WRITES = 40
 NAMES = ["Jörg", "Jo\u0308rg", "ﬁn", "fin", "Å", "\u212b", "A\u030a", "\U0001E030", "\u0430", "x\U0001E030", "x\u0430", "\u0870a",
          "\U00010570z", "\U0001E08F\u0301", "한", "\u1112\u1161\u11ab", "", "\u1ead", "a\u0323\u0302", "a\u0302\u0323", "\u0958",
          "\u0915\u093c", "\U0001D15E", "s\u0323\u0307", "s\u0307\u0323", "\u1e69", "\u0378", "\U0001FAE8", "\u0CF3\u0CF3"]
+# What folds alike, is ordered while a mark that folds to a letter is one, or folds to capitals; the last four are of version 14.0.
+CASES = ["JÖRG", "FIN", "FI", "STRASSE", "straße", "STRA\u1e9eE", "ΣΑΣ", "σας", "\u0130", "i\u0307", "\u1fb3\u0301", "\u1fb4", "\u0391\u0345\u0301", "\u03ac\u03b9",
+         "\uab70", "\u13a0", "\u2121", "TEL", "\u212a", "\U0001d400", "\u03b1\u0345\uff9e", "\u03b1\u3099\u0345", "\u2c2f", "\u2c5f", "\U00010570", "\U00010597"]
 # By its place in AGES a version's code points, and what has the same keys in each version, under NFKC alone: no code point
 # of these versions is canonically equivalent to older ones.
 PAIRS = [(1, "\uA7F2", "C"), (1, "\U00010783", "\u00e6"), (1, "x\U000107A5\u0301", "xq\u0301"), (2, "\U0001E030", "\u0430"),
@@ -140,13 +144,13 @@ class Node(threading.Thread):
         source, chance = self.source, self.source.random()
         if self.upgrades and time.time() > self.upgrades[0]:
             return {"do": "upgrade", "files": self.chaos.files[self.version + 1]}
-        name = source.choice(self.chaos.pool) + source.choice(("", "1", "\u0301", str(source.randint(1, 30))))
+        name = self.cased(source.choice(self.chaos.pool) + source.choice(("", "1", "\u0301", str(source.randint(1, 30)))))
         if chance < 0.14:
             name = self.paired()
         elif chance < 0.22:
             name = source.choice(self.chaos.told.forgets[-LAST:] or [name])
         elif chance < 0.36:
-            name = f"now {int(time.time() * 4)}"  # what other nodes claim as well
+            name = self.cased(f"now {int(time.time() * 4)}")  # what other nodes claim as well
         if chance < 0.62:
             return {"do": "claim", "name": name, "owner": source.choice("abc")}
         if chance < 0.76:
@@ -158,6 +162,10 @@ class Node(threading.Thread):
             return {"do": "find", "name": source.choice(self.mine[-LAST:] or [name])}
         return {"do": "same", "left": name, "right": source.choice(self.chaos.pool)}
 
+    def cased(self, name):
+        """A name, in the case of somebody else where names that differ by case are one."""
+        return self.source.choice((str, str.upper, str.lower, str.title))(name) if self.chaos.setup.caseless else name
+
     def paired(self):
         """A name with a young code point, where this version has it; else an old name whose key such a one has, which is parked here."""
         since, young, old = self.source.choice(PAIRS)
@@ -165,7 +173,7 @@ class Node(threading.Thread):
             tail = str(self.source.randint(1, 9999))
             self.chaos.old.append((since, old + tail))
             return young + tail
-        return self.source.choice([name for least, name in self.chaos.old[-LAST:] if least > self.version] or [old])
+        return self.cased(self.source.choice([name for least, name in self.chaos.old[-LAST:] if least > self.version] or [old]))
 
     def run(self):
         open_now = False
@@ -195,16 +203,16 @@ class Chaos:
         self.folder = folder
         self.source = random.Random(words.seed)
         self.told = Told()
-        self.pool = NAMES
+        self.pool = NAMES + CASES * words.caseless
         # Names of old code points, each with the version that has a young one of its key, which was claimed somewhere.
         self.old = []
-        self.files = self._versions()
+        self.files = self._versions(words.caseless)
         self.servers = MADE[words.log](folder)
         # Each node reaches the servers in ways of its own.
         self.proxies = [[Proxy(port) for port in self.servers.ports] for _ in range(NODES)]
         drawn = self.source.choice(("nfc", "nfkc"))
-        setup = Setup(words.form or drawn, self.source.choice((40, 65536)), self.source.choice((1, 3)), self.source.random() < 0.2)
-        self.setup = setup
+        room, shards, equivalents = self.source.choice((40, 65536)), self.source.choice((1, 3)), self.source.random() < 0.2
+        self.setup = Setup(words.form or drawn, room, shards, equivalents and not words.caseless, caseless=words.caseless)
         self.seconds, self.seed, self.program = words.seconds, words.seed, words.program
         self.judged = 0
 
@@ -220,10 +228,10 @@ class Chaos:
 
     def _init(self, number):
         """Makes a node's store; where a busy machine's server doesn't answer in time, once more."""
-        data, exclusions = (Path(name).read_bytes() for name in self.files[number % len(AGES)])
+        version = Version(*(Path(name).read_bytes() for name in self.files[number % len(AGES)]))
         for left in reversed(range(10)):
             try:
-                init(str(self.store(number)), Version(data, exclusions), self.setup, self.log(number))
+                init(str(self.store(number)), version, self.setup, self.log(number))
                 return
             except LogAway:
                 if not left:
@@ -238,13 +246,15 @@ class Chaos:
     def log(self, number):
         return self.servers.name("chaos", [proxy.port for proxy in self.proxies[number]])
 
-    def _versions(self):
+    def _versions(self, caseless):
+        """The files of each version: two, or three of a caseless log."""
         files, why = ucd.package_files()
         if files is None:
             print(f"skipped: chaos over the published versions: {why}")
             Tally().finish()
-        cut = [ucd.write_cut(files, age, self.folder)[0] for age in AGES[:-1]]
-        return [*cut, [str(files[ucd.DATA]), str(files[ucd.EXCLUSIONS])]]
+        cut = [[*ucd.write_cut(files, age, self.folder)[0], ucd.write_cut_folding(files, age, self.folder)] for age in AGES[:-1]]
+        last = [str(files[name]) for name in (ucd.DATA, ucd.EXCLUSIONS, ucd.FOLDING)]
+        return [three if caseless else three[:2] for three in (*cut, last)]
 
     def run(self):
         for thread in (self.probe, self.trims, *self.nodes):
@@ -324,24 +334,28 @@ def check_lost_tail(tally, chaos):
         tally.same("the place of the loss", error.place, place)
 
 
-def lines_of(chaos, names, program):
+def lines_of(chaos, names, program, caseless):
     """What the program npss_lines makes of names, under the last version."""
-    lines = Path(program).resolve().parents[2] / "npss_lines" / "out" / "npss_lines"
+    lines = Path(program).with_name("npss_lines")
     text = b"".join(name.encode() + b"\0" for name in names)
-    words = [lines, "--null", "--form", chaos.setup.form, *chaos.files[-1]]
+    files = ["--caseless", *chaos.files[-1]] if caseless else chaos.files[-1][:2]
+    words = [lines, "--null", "--form", chaos.setup.form, *files]
     return subprocess.run(words, input=text, stdout=subprocess.PIPE, check=False).stdout
 
 
 def check_keys(tally, chaos, rows, program):
-    """Each key is what the program makes of its string."""
-    tally.same("each key is its string's", lines_of(chaos, [row[1] for row in rows], program), b"".join(b"=" + row[2].encode() + b"\0" for row in rows))
+    """Each key, and each caseless key, is what the program makes of its string."""
+    names = [row[1] for row in rows]
+    tally.same("each key is its string's", lines_of(chaos, names, program, False), b"".join(b"=" + row[2].encode() + b"\0" for row in rows))
+    if chaos.setup.caseless:
+        tally.same("each caseless key is its string's", lines_of(chaos, names, program, True), b"".join(b"=" + row[5].encode() + b"\0" for row in rows))
 
 
 def check_history(tally, chaos, rows, program):
     """What was answered over time can be."""
     history = chaos.told.history
     names = history.names()
-    keys = keys_of(names, lines_of(chaos, names, program))
+    keys = keys_of(names, lines_of(chaos, names, program, chaos.setup.caseless))
     if tally.check("each name that was answered has a key", keys is not None, names[:5]):
         tally.same("what was answered over time", history.violations(keys, chaos.setup.equivalents, {row[1]: row[3] for row in rows}), [])
 
@@ -355,7 +369,7 @@ def check(tally, chaos, program):
     for number, other in enumerate(rows[1:], start=1):
         tally.same(f"nodes 0 and {number} register the same", other, rows[0])
     tally.same("nothing is parked under the last version", [row for row in rows[0] if row[4]], [])
-    keys = [row[2] for row in rows[0]]
+    keys = [row[5] if chaos.setup.caseless else row[2] for row in rows[0]]
     tally.check("each key has one holder", chaos.setup.equivalents or len(set(keys)) == len(keys), "two have one key")
     check_keys(tally, chaos, rows[0], program)
     check_history(tally, chaos, rows[0], program)
@@ -377,14 +391,16 @@ def main():
     parser.add_argument("--log", choices=KINDS, default=here()[-1])
     parser.add_argument("--within", type=float, default=60, help="records are taken again so many seconds behind the end of whoever takes them")
     parser.add_argument("--form", choices=("nfc", "nfkc"), help="else the seed draws it")
+    parser.add_argument("--caseless", action="store_true", help="the log is caseless")
     parser.add_argument("program")
     words = parser.parse_args()
-    print(f"seed {words.seed}, {words.seconds} seconds over {words.log}", flush=True)
+    print(f"seed {words.seed}, {words.seconds} seconds over {words.log}{', caseless' if words.caseless else ''}", flush=True)
     signal.signal(signal.SIGTERM, lambda *_: sys.exit(143))
     tally = Tally()
     try_checker(tally)
     with tempfile.TemporaryDirectory() as name:
         Path(name).chmod(0o755)  # PostgreSQL runs as another user than root
+        words.program = str(programs_in(Path(name), words.program))
         chaos = Chaos(Path(name), words)
         try:
             chaos.begin_nodes()

@@ -11,6 +11,7 @@ import os
 import random
 import sys
 from contextlib import contextmanager, suppress
+from pathlib import Path
 
 from npss import Refused
 from npss_registry import InUse, LogAway, LogBroken, NotOneChain, Version
@@ -92,7 +93,7 @@ def outcome(told):
 
 def rows_of(registry):
     """All that is registered."""
-    return [[row.place, row.string, row.key, row.owner, row.parked] for shard in registry.shards for row in registry.store.registrations(shard.number)]
+    return [[row.place, row.string, row.key, row.owner, row.parked, row.caseless] for shard in registry.shards for row in registry.store.registrations(shard.number)]
 
 
 def done(registry, asked):
@@ -111,8 +112,8 @@ def done(registry, asked):
         registry.catch_up()
         return {"what": str(registry.same(asked["left"], asked["right"]))}
     if what == "upgrade":
-        data, exclusions = (open(name, "rb").read() for name in asked["files"])
-        return {"what": "upgraded", "parked": len(registry.upgrade(Version(data, exclusions)))}
+        version = Version(*(Path(name).read_bytes() for name in asked["files"]))
+        return {"what": "upgraded", "parked": len(registry.upgrade(version))}
     return {"what": "registered", "rows": rows_of(registry)}
 
 

@@ -13,6 +13,7 @@ from harness import told
 ROWS = (("npss", "npss k", "key"), ("npss", "npss key --form nfkc --c", "--check-under"), ("npss_lines", "npss_lines --form nfk", "nfkc nfkd"),
         ("npss_lines", "npss_lines --pr", "--progress"), ("npss_caseless", "npss_caseless co", "compare"),
         ("npss_caseless", "npss_caseless key --ch", "--check-under"), ("npss-registry", "npss-registry cl", "claim"),
+        ("npss-registry", "npss-registry init --cas", "--caseless"),
         ("npss-registry", "npss-registry relog --fr", "--from"), ("npss-registry", "npss-registry trim --pa", "--patience"))
 # Where each shell looks, below the root.
 BASH, ZSH, FISH = "usr/share/bash-completion/completions", "usr/share/zsh/vendor-completions", "usr/share/fish/vendor_completions.d"

@@ -32,7 +32,6 @@ AGES = ((13, 0), (14, 0))
 SYSTEM_PYTHON = "/usr/bin/python3"
 LOADS = "import sqlite3; sqlite3.connect(':memory:').enable_load_extension(True)"
 CLIENTS = "import psycopg, pymysql"
-# The head of a table of the pages that names numbers.
 
 
 def has_sqlite():

@@ -6,7 +6,7 @@ import socket
 from pathlib import Path
 
 from harness import told
-from hosts.roots import COMPATIBLE, FILES, KEY, TEXT
+from hosts.roots import COMPATIBLE, FILES, FOLDING, KEY, TEXT
 
 # The service of the registry, what it works with where systemd doesn't start it, and the most exposure by systemd's own measure.
 UNIT, STATE, SECRETS, TOKEN, EXPOSURE = "lib/systemd/system/npss-registry.service", "tmp/state", "tmp/secrets", "0123456789abcdef", 20
@@ -36,10 +36,13 @@ print(server.wait())
 
 
 def check_registry(tally, root):
-    """A registry over the package for Python, with the program as its judge."""
+    """A registry over the package for Python, with the program as its judge; and a caseless one, with all three."""
     for words, wanted in ((["init", "/tmp/store", *FILES, "--form", "nfkc"], "form nfkc, room 65536, shards 1, equivalents refused, names of at most 1024 bytes\n"),
                           (["claim", "/tmp/store", TEXT, "--owner", "17"], None), (["find", "/tmp/store", COMPATIBLE], None),
-                          (["check", "/tmp/store"], None)):
+                          (["check", "/tmp/store"], None),
+                          (["init", "--caseless", "/tmp/people", *FILES, FOLDING], "form nfc, caseless, room 65536, shards 1, equivalents refused, names of at most 1024 bytes\n"),
+                          (["claim", "/tmp/people", "STRASSE", "--owner", "17"], "registered 'STRASSE' of '17' at place 2\n"),
+                          (["find", "/tmp/people", "stra\u00dfe"], "2\t'STRASSE'\t17\n"), (["check", "/tmp/people"], None)):
         status, written = root.run("npss-registry", *words)
         tally.check(f"npss-registry {words[0]}", status == 0 and (wanted is None or written == wanted), f"status {status}: {written}")
 

@@ -3,8 +3,8 @@
 
 PROGRAM is npss. PREFIX is where ./build-c installed the library, that of this tree where none is named; the module npss is
 built over it. In turn: the registry's own tests; chaos over a log of each kind of which there are a server and a client, a
-SQLite file, Redis, PostgreSQL and etcd, for N seconds each, 20 where nobody says otherwise, and behind each the log's own
-faults, which take some 10 seconds. Run as root it installs Debian's packages of PACKAGES where they are missing, unless
+SQLite file, Redis, PostgreSQL and etcd, and over a caseless log in a file, for N seconds each, 20 where nobody says otherwise, and
+behind each the log's own faults, which take some 10 seconds. Run as root it installs Debian's packages of PACKAGES where they are missing, unless
 NO_APT=1 is set; what can't be had is skipped, with its name. Ends in a line 'N passed, M failed'.
 """
 
@@ -19,7 +19,7 @@ from pathlib import Path
 
 sys.path.insert(0, str(Path(__file__).resolve().parent.parent))
 
-from harness import ROOT, Tally, install
+from harness import ROOT, Tally, install, programs_in
 
 HOST = ROOT / "hosts" / "registry"
 PACKAGES = ("redis-server", "python3-redis", "postgresql", "python3-psycopg", "etcd-server", "python3-starlette", "python3-uvicorn",
@@ -78,7 +78,8 @@ def main():
     if python is None:
         print("skipped: the registry over HTTP and over Redis: python3-redis, python3-starlette, python3-uvicorn or python3-prometheus-client is missing")
     python = python or sys.executable
-    with tempfile.TemporaryDirectory() as site:
+    with tempfile.TemporaryDirectory() as site, tempfile.TemporaryDirectory() as beside:
+        words.program = programs_in(Path(beside), words.program)
         build = [sys.executable, ROOT / "bindings" / "python" / "build.py", "--prefix", words.prefix, site]
         built = subprocess.run(build, stdout=subprocess.PIPE, stderr=subprocess.STDOUT, text=True, check=False)
         if not tally.check("the module for Python is built", built.returncode == 0, built.stdout):
@@ -93,10 +94,11 @@ def main():
         else:
             print("skipped: the registry's types: mypy is not here")
         logs = kinds_here(python, environment)
+        chaos = [python, ROOT / "tests" / "hosts" / "chaos.py", "--seconds", words.seconds]
         print("".join(f"skipped: chaos over {log}: its server or its client is not here\n" for log in ("redis", "postgres", "etcd") if log not in logs), end="")
         for log in logs:
-            chaos = [python, ROOT / "tests" / "hosts" / "chaos.py", "--seconds", words.seconds, "--log", log, words.program]
-            counted(tally, f"chaos over {log}", chaos, environment)
+            counted(tally, f"chaos over {log}", [*chaos, "--log", log, words.program], environment)
+        counted(tally, "chaos over a caseless log", [*chaos, "--log", logs[0], "--caseless", words.program], environment)
     tally.finish()
 
 

@@ -13,6 +13,7 @@ PACKAGES = ("postgresql-15", "python3", "python3-prometheus-client", "python3-st
 TEXT, KEY, COMPATIBLE = "a\u0302\u0323\ufb01", "\u1ead\ufb01", "\u1eadfi"
 UNICODE = "/usr/share/unicode"
 FILES = (f"{UNICODE}/UnicodeData.txt", f"{UNICODE}/CompositionExclusions.txt")
+FOLDING = f"{UNICODE}/CaseFolding.txt"
 SOURCES = Path("/etc/apt/sources.list.d/debian.sources")
 PLAIN_SOURCES = Path("/etc/apt/sources.list")
 # A file that is written with no care for a crash; no translations.

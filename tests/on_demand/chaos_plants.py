@@ -2,7 +2,7 @@
 """tests/on_demand/chaos_plants.py [--seconds N] [NAME..] PROGRAM: plants bugs into the registry, and sees that chaos finds each.
 
 Each bug is one edit of a copy of hosts/registry. Chaos runs over the copy, over a SQLite file and over a Redis server,
-under NFC and NFKC in turn, half a minute each, until it fails or N seconds are over, 180 where nobody says otherwise. First it
+under NFC and NFKC in turn, half a minute each, for a bug of caseless logs over such, until it fails or N seconds are over, 180 where nobody says otherwise. First it
 runs over the registry as it is, and has to pass. What chaos doesn't do is found by a test of the registry's own. On demand:
 not called by ./test. Ends in a line 'N passed, M failed'.
 """
@@ -18,10 +18,12 @@ from pathlib import Path
 
 sys.path.insert(0, str(Path(__file__).resolve().parent.parent))
 
-from harness import ROOT, Tally
+from harness import ROOT, Tally, programs_in
 
 # What chaos runs over, in turn, and its first seed, one of a registry that refuses equivalents.
 RUNS, SEED = (("sqlite", "nfkc"), ("redis", "nfc"), ("sqlite", "nfc"), ("redis", "nfkc")), 3
+# The bugs of which chaos has to run over a caseless log.
+CASELESS = ("a parked name counts by its key", "a shard goes by the key", "names are one by their keys")
 # For each bug its file, a text that stands there once, and what stands there in its place; or several of both. Behind some stands
 # a test that finds it too, where a busy machine leaves chaos too few claims.
 PLANTS = {
@@ -55,8 +57,8 @@ PLANTS = {
         if refused:
             return Outcome("full")
         new =""", "Versions.test_a_record_with_a_code_point_that_is_missing_is_parked"),
-    "a parked key is not counted": ("shards.py", """self._store.holder_of_key(self.number, claim.key)""",
-                                    """next((one for one in self._store.with_key(self.number, claim.key) if one.string == claim.string or not one.parked), None)""",
+    "a parked key is not counted": ("shards.py", """self._store.holder_of_key(self.number, claim.unique)""",
+                                    """next((one for one in self._store.with_key(self.number, claim.unique) if one.string == claim.string or not one.parked), None)""",
                                     "Versions.test_a_lagging_node_does_not_give_away_a_key_of_a_parked_name"),
     "a forget without its place": ("shards.py", """self._store.at(self.number, forget.place)
         if""", """next((one for one in self._store.registrations(self.number) if one.string == forget.string), None)
@@ -75,6 +77,15 @@ PLANTS = {
         shard.apply(piece)
         shard.check_end()
 """, ""),
+    "a parked name counts by its key": ("shards.py", """self._store.holder_of_key(self.number, claim.unique)""",
+                                        """next((one for one in self._store.registrations(self.number) if (one.key if one.parked else one.caseless) == claim.unique), None)""",
+                                        "CaselessVersions.test_a_lagging_node_counts_the_caseless_key_of_a_parked_name"),
+    "a shard goes by the key": ("registry.py", "self._shard_of(claim.unique), claim))", "self._shard_of(claim.key), claim))", "Caseless.test_many_claims_at_once"),
+    "names are one by their keys": ("records.py", """        return self.key if self.caseless is None else self.caseless
+
+""", """        return self.key
+
+""", "Caseless.test_names_are_one_where_their_caseless_keys_are"),
     "relog writes no end": ("relog.py", """            _write_end(log, store.setup.shards, shown(self._target))
 """, ""),
 }
@@ -85,9 +96,29 @@ TESTED = {
 """, "Setups.test_another_registrys_log_in_the_same_place"),
     "a parked flag is not compared": ("judge.py", """            self._compare_parked(course, store)
 """, "", "Judging.test_a_parked_flag_is_compared"),
-    "a record is not examined that comes to taken": ("examine.py", """        if self._key(claim.string) not in (None, claim.key):
+    "a record is not examined that comes to taken": ("examine.py", """        if self._made(False, claim.string) not in (None, claim.key):
 """, """        if False:
 """, "Examined.test_a_wrong_key_of_a_claim_that_comes_to_taken"),
+    "a caseless key that a record carries is not compared": ("examine.py", """        if self.setup.caseless and self._made(True, claim.string) not in (None, claim.caseless):
+""", """        if False:
+""", "CaselessLogs.test_a_wrong_caseless_key_stops_each_node_that_can_make_it"),
+    "a caseless key of a parked name is not compared": ("shards.py", """            self._examiner.claim(place, claim)
+            if self._take""", """            if self._take""", "CaselessVersions.test_a_wrong_caseless_key_of_a_parked_name_stops_the_upgrade"),
+    "a claim without its caseless key is taken": ("records.py", """_text(told["caseless"]) if caseless else None""",
+                                                  """_text(told.get("caseless") or "") if caseless else None""",
+                                                  "CaselessLogs.test_a_claim_without_its_caseless_key_is_no_record"),
+    "a snapshot has no caseless keys": ("snapshots.py", "    return told if name.caseless is None else [*told, name.caseless]\n", "    return told\n",
+                                        "CaselessTrims.test_a_store_begins_with_the_caseless_keys_of_a_snapshot"),
+    "a snapshot's sum leaves caseless keys out": ("records.py", "for text in name[1:] if text is not None]", "for text in name[1:4]]",
+                                                  "CaselessTrims.test_what_stands_beside_the_log_has_caseless_keys"),
+    "the program's caseless keys are not compared": ("judge.py", """        self._compare_caseless(shard, ledger, stores)
+""", "", "CaselessJudging.test_what_another_program_makes_is_seen"),
+    "a row's caseless key is not compared": ("judge.py", "    return (one.key,) if one.caseless is None else (one.key, one.caseless)\n", "    return (one.key,)\n",
+                                             "CaselessJudging.test_names_that_no_version_has_in_full"),
+    "a version is audited without its folding": ("registry.py", "tables.first_break(self.tables, self.setup.caseless)", "tables.first_break(self.tables)",
+                                                 "CaselessVersions.test_a_version_is_audited_with_its_folding"),
+    "names are the same by their keys": ("registry.py", "if first != second or self.setup.caseless:", "if first != second:",
+                                         "Caseless.test_one_key_and_two_caseless_keys"),
     "a symbolic link is another store": ("lock.py", "os.path.realpath(path)", "os.path.abspath(path)", "Restarts.test_a_symbolic_link_is_the_store"),
     "a place is shown before its commit": ("logs/postgres_log.py", (
         'f"npss log {self._name}"', 'f"SELECT coalesce(max(place), 0), {SETTINGS} FROM {{table}}"'),
@@ -168,13 +199,14 @@ def planted(folder, name):
     return copy
 
 
-def found_after(copy, program, seconds):
+def found_after(copy, program, seconds, *flags):
     """After how many seconds chaos failed, and the first line that tells why; None where it didn't."""
     environment = {**os.environ, "PYTHONPATH": f"{copy}:{os.environ.get('PYTHONPATH', '')}"}
     begun, seed = time.time(), SEED
     while time.time() - begun < seconds:
         for log, form in RUNS:
-            words = [sys.executable, ROOT / "tests" / "hosts" / "chaos.py", "--seconds", "30", "--seed", str(seed), "--log", log, "--form", form, program]
+            words = [sys.executable, ROOT / "tests" / "hosts" / "chaos.py", "--seconds", "30", "--seed", str(seed), "--log", log, "--form", form,
+                     *flags, program]
             ran = subprocess.run(list(map(str, words)), env=environment, stdout=subprocess.PIPE, stderr=subprocess.STDOUT, text=True, check=False)
             seed += 1
             if ran.returncode:
@@ -198,6 +230,8 @@ def main():
     parser.add_argument("program", type=Path)
     words = parser.parse_args()
     tally = Tally()
+    beside = tempfile.TemporaryDirectory()
+    words.program = programs_in(Path(beside.name), words.program)
     with tempfile.TemporaryDirectory() as folder:
         found = None if words.only else found_after(copied(folder), words.program, 1)
         if not tally.check("no bug, no failure", found is None, found):
@@ -210,7 +244,7 @@ def main():
         if name in TESTED:
             continue
         with tempfile.TemporaryDirectory() as folder:
-            found = found_after(planted(folder, name), words.program, words.seconds)
+            found = found_after(planted(folder, name), words.program, words.seconds, *(["--caseless"] if name in CASELESS else []))
         in_time = found is not None and found[0] <= words.seconds
         if not in_time and len(PLANTS[name]) > 3:
             with tempfile.TemporaryDirectory() as folder:

@@ -35,13 +35,16 @@ from npss_registry.trim import PATIENCE, trim
 DONE, NO, REFUSED, FAULTY, AWAY = 0, 1, 3, 4, 5
 INTERRUPTED, NOBODY_READS = 130, 141
 # What the places of a command are.
-PLACES = {"store": "the file of the store", "data": "UnicodeData.txt of the version", "exclusions": "its CompositionExclusions.txt", "name": "a name",
-          "left": "a registered name", "right": "another one", "to": "the new file"}
+PLACES = {"store": "the file of the store", "data": "UnicodeData.txt of the version", "exclusions": "its CompositionExclusions.txt",
+          "folding": "its CaseFolding.txt, where the log is caseless", "name": "a name", "left": "a registered name", "right": "another one",
+          "to": "the new file"}
+
+_PROGRAM = "the program npss; beside it are looked for npss_lines and npss_caseless, which a caseless log wants"
 
 
-def version_of(data: str, exclusions: str) -> Version:
-    """The version of two files, which have to make one."""
-    version = Version(Path(data).read_bytes(), Path(exclusions).read_bytes())
+def version_of(words: argparse.Namespace) -> Version:
+    """The version of the files that were named, which have to make one."""
+    version = Version(*(Path(name).read_bytes() for name in (words.data, words.exclusions, words.folding) if name is not None))
     version.tables()
     return version
 
@@ -102,10 +105,10 @@ def row_of(found: Registration) -> str:
 
 def _init(words: argparse.Namespace) -> int:
     setup: Optional[Setup] = None
-    if any(value is not None for value in (words.form, words.room, words.shards, words.most_bytes)) or words.equivalents:
+    if any(value is not None for value in (words.form, words.room, words.shards, words.most_bytes)) or words.equivalents or words.caseless:
         setup = Setup(words.form or "nfc", 65536 if words.room is None else words.room, 1 if words.shards is None else words.shards,
-                      words.equivalents, most_bytes=words.most_bytes or 0)
-    made = init(words.store, version_of(words.data, words.exclusions), setup, words.log or f"{os.path.basename(words.store)}.log")
+                      words.equivalents, most_bytes=words.most_bytes or 0, caseless=words.caseless)
+    made = init(words.store, version_of(words), setup, words.log or f"{os.path.basename(words.store)}.log")
     print(told_setup(replace(made, name="")))
     return DONE
 
@@ -159,7 +162,7 @@ def _status(words: argparse.Namespace, registry: Registry) -> int:
 
 def _upgrade(words: argparse.Namespace, registry: Registry) -> int:
     registry.catch_up()
-    parked = registry.upgrade(version_of(words.data, words.exclusions))
+    parked = registry.upgrade(version_of(words))
     print(f"the tables assign {registry.tables.count} code points; {len(parked)} strings are still parked")
     for row in parked:
         print(row_of(row))
@@ -232,25 +235,30 @@ def parser() -> argparse.ArgumentParser:
     def command(name: str, help: str, *places: str) -> argparse.ArgumentParser:
         one = commands.add_parser(name, help=help, description=help)
         for place in places:
-            one.add_argument(place, metavar=place.upper(), help=PLACES[place])
+            if place == "folding":
+                one.add_argument(place, metavar=place.upper(), help=PLACES[place], nargs="?")
+            else:
+                one.add_argument(place, metavar=place.upper(), help=PLACES[place])
         return one
 
-    one = command("init", "makes a store over a log, which it sets up where nobody has", "store", "data", "exclusions")
+    one = command("init", "makes a store over a log, which it sets up where nobody has", "store", "data", "exclusions", "folding")
     one.add_argument("--log", type=log_of, help="the path of a SQLite file, relative to the store's folder, or a URL; else STORE.log")
     one.add_argument("--form", type=_lowered, choices=FORMS, help="the form of the keys; nfc where nobody says otherwise")
     one.add_argument("--room", type=between(0, 65536), help="the most strings of a shard, up to 65536")
     one.add_argument("--shards", type=between(1, MOST_SHARDS), help="how many shards, up to 1024; never to be changed")
     one.add_argument("--most-bytes", type=between(1, MOST_BYTES_OF_NAME), help="the most bytes of a name, up to 65536; 1024 where nobody says otherwise")
-    one.add_argument("--equivalents", action="store_true", help="register equivalent strings side by side, as file names")
+    alike = one.add_mutually_exclusive_group()
+    alike.add_argument("--equivalents", action="store_true", help="register equivalent strings side by side, as file names")
+    alike.add_argument("--caseless", action="store_true", help="names that differ by case alone are one; wants FOLDING")
     one = command("claim", "registers a name for an owner", "store", "name")
     one.add_argument("--owner", type=owner_of, required=True)
     one = command("forget", "gives a name up", "store", "name")
     one.add_argument("--owner", type=owner_of, help="only where this owner has it")
-    command("find", "tells who has a name, or an equivalent one", "store", "name")
-    command("same", "tells whether two registered names are equivalent", "store", "left", "right")
+    command("find", "tells who has a name, or one that is the same", "store", "name")
+    command("same", "tells whether two registered names are the same", "store", "left", "right")
     command("list", "lists the registered names, with their places and owners", "store")
     command("status", "tells how far each shard was read, and what is parked", "store")
-    command("upgrade", "goes on to a later version of Unicode", "store", "data", "exclusions")
+    command("upgrade", "goes on to a later version of Unicode", "store", "data", "exclusions", "folding")
     command("backup", "copies the store into a new file", "store", "to")
     one = command("log", "tells how the store's log is named, or changes the name of the same log", "store")
     one.add_argument("log", metavar="LOG", nargs="?", type=log_of, help="another name of the log, in which all has to stand that the store has read")
@@ -260,7 +268,7 @@ def parser() -> argparse.ArgumentParser:
     one.add_argument("--from", dest="source", metavar="STORE", help="the store whose names are taken; else the one that has read farthest")
     one = command("trim", "deletes the log's records before a snapshot, where check finds nothing and each store has read it")
     one.add_argument("stores", metavar="STORE", nargs="+")
-    one.add_argument("--program", default="npss", help="the program npss")
+    one.add_argument("--program", default="npss", help=_PROGRAM)
     one.add_argument("--patience", type=float, default=PATIENCE, metavar="SECONDS", help=f"how long a store may take to read the log on; else {PATIENCE:g}")
     one = command("serve", "serves the registry as JSON over HTTP, and as pages", "store")
     one.add_argument("--host", default="127.0.0.1", help="the address; else that of this machine alone")
@@ -270,7 +278,7 @@ def parser() -> argparse.ArgumentParser:
     one.add_argument("--allow-host", action="append", default=[], metavar="HOST", help="another host that requests may name; may be repeated")
     one = command("check", "has `npss replay` judge what stores did")
     one.add_argument("stores", metavar="STORE", nargs="+")
-    one.add_argument("--program", default="npss", help="the program npss")
+    one.add_argument("--program", default="npss", help=_PROGRAM)
     one.add_argument("--most-events", type=int, default=MOST_EVENTS, help=argparse.SUPPRESS)
     one.add_argument("--most-bytes", type=int, default=MOST_BYTES, help=argparse.SUPPRESS)
     return made
@@ -297,7 +305,10 @@ def run(words: argparse.Namespace) -> int:
 
 def main(given: Optional[Sequence[str]] = None) -> int:
     """The command. Status 0: done; 1: no, or taken; 2: bad words; 3: refused; 4: a store, log or file is faulty; 5: it is away, or in use."""
-    words = parser().parse_args(given)
+    asked = parser()
+    words = asked.parse_args(given)
+    if words.command == "init" and words.caseless and words.folding is None:
+        asked.error("init --caseless wants three files: DATA EXCLUSIONS FOLDING")
     # What is made holds names and passwords, which are the user's own.
     mask = os.umask(0o077)
     if isinstance(sys.stdout, io.TextIOWrapper):

@@ -22,13 +22,13 @@ class Examiner:
 
     def record(self, place: int, body: bytes, first: bool) -> Record:
         """The record of bytes at a place. `first` is whether it is the shard's first one."""
-        record = records.read(place, body, self._layout)
+        record = records.read(place, body, self._layout, self.setup.caseless)
         if isinstance(record, Claim) and not first:
             self.claim(place, record)
         elif first or isinstance(record, (Setup, Snapshot)):
             self._check_setup(place, record, first)
         elif isinstance(record, Forget):
-            self._check_shard(place, self._key(record.string))
+            self._check_shard(place, self._made(self.setup.caseless, record.string))
         return record
 
     def _check_setup(self, place: int, record: Record, first: bool) -> None:
@@ -48,19 +48,26 @@ class Examiner:
         if len(claim.message) > most and len(claim.string.encode()) > most:
             raise LogBroken(place, f"its string has more than {most:,} bytes")
         # The key of a string with code points that this version lacks can't be made: the record's own is gone by.
-        if self._key(claim.string) not in (None, claim.key):
+        if self._made(False, claim.string) not in (None, claim.key):
             raise LogBroken(place, "its key is not that of its string")
-        self._check_shard(place, claim.key)
+        self._check_caseless(place, claim)
+        self._check_shard(place, claim.unique)
 
-    def _check_shard(self, place: int, key: Optional[str]) -> None:
-        if key is not None and self.setup.shards > 1:
-            shard = records.shard_of(key, self.setup.shards)
+    def _check_caseless(self, place: int, claim: Claim) -> None:
+        if (claim.caseless is None) is self.setup.caseless:
+            raise LogBroken(place, f"it has {'no' if self.setup.caseless else 'a'} caseless key")
+        if self.setup.caseless and self._made(True, claim.string) not in (None, claim.caseless):
+            raise LogBroken(place, "its caseless key is not that of its string")
+
+    def _check_shard(self, place: int, unique: Optional[str]) -> None:
+        if unique is not None and self.setup.shards > 1:
+            shard = records.shard_of(unique, self.setup.shards)
             if shard != self.shard:
                 raise LogBroken(place, f"it stands in shard {self.shard} and belongs to shard {shard}")
 
-    def _key(self, string: str) -> Optional[str]:
-        """The key of a string; None where this version lacks a code point of it."""
+    def _made(self, caseless: bool, string: str) -> Optional[str]:
+        """The key of a string, or its caseless one; None where this version lacks a code point of it."""
         try:
-            return self.tables.key(string, self.setup.form)
+            return self.tables.key(string, self.setup.form, caseless)
         except Unassigned:
             return None

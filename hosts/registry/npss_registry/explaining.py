@@ -4,8 +4,9 @@ from bisect import bisect_right
 from dataclasses import dataclass
 from typing import Optional
 
-from npss import Form, Tables, Unassigned
+from npss import Tables, Unassigned
 
+from npss_registry.records import Setup
 from npss_registry.store import Version
 
 
@@ -45,7 +46,7 @@ class Names:
 
 @dataclass(frozen=True)
 class Row:
-    """What a version says of one code point of a name."""
+    """What a version says of one code point of a name; what it folds to in a caseless log alone."""
 
     code: int
     name: str
@@ -53,11 +54,12 @@ class Row:
     combining_class: int
     mapping: Optional[str]
     decomposition: str
+    folding: str
 
 
 @dataclass(frozen=True)
 class Side:
-    """A name, its first code points one by one, and its key; none where a code point isn't assigned."""
+    """A name, its first code points one by one, and its unique key; none where a code point isn't assigned."""
 
     text: str
     rows: list[Row]
@@ -79,23 +81,29 @@ def hex_of(code: int) -> str:
     return f"{code:04X}"
 
 
-def side(tables: Tables, names: Names, form: Form, text: str) -> Side:
+def _others(character: str, told: Optional[str]) -> str:
+    """The code points of what is told of a character, where that isn't the character itself."""
+    return " ".join(hex_of(ord(one)) for one in told) if told is not None and told != character else ""
+
+
+def side(tables: Tables, names: Names, setup: Setup, text: str) -> Side:
     """A name as the page shows it."""
     rows = []
     for character in text[:MOST_ROWS]:
         told = tables.property(character)
-        decomposition = tables.decomposition(character, form in ("nfkd", "nfkc"))
+        decomposition = tables.decomposition(character, setup.form in ("nfkd", "nfkc"))
+        folding = tables.folding(character) if setup.caseless else None
         rows.append(Row(ord(character), names.name(ord(character)), told.assigned, told.combining_class, told.mapping,
-                        " ".join(hex_of(ord(one)) for one in decomposition) if decomposition != character else ""))
+                        _others(character, decomposition), _others(character, folding)))
     try:
-        return Side(text, rows, tables.key(text, form), None)
+        return Side(text, rows, tables.key(text, setup.form, setup.caseless), None)
     except Unassigned as error:
         return Side(text, rows, None, error)
 
 
-def compared(tables: Tables, names: Names, form: Form, left: str, right: str) -> Verdict:
-    """Why two names are the same or not, under a form."""
-    one, other = side(tables, names, form, left), side(tables, names, form, right)
+def compared(tables: Tables, names: Names, setup: Setup, left: str, right: str) -> Verdict:
+    """Why two names are the same or not, by what the log was set up with."""
+    one, other = side(tables, names, setup, left), side(tables, names, setup, right)
     if one.key is None or other.key is None:
         return Verdict(one, other, None, None)
     if one.key == other.key:

@@ -9,11 +9,13 @@ import tempfile
 from collections.abc import Collection, Sequence
 from contextlib import ExitStack
 from dataclasses import dataclass
+from typing import Optional, Union
 
 from npss import Node, Tables
 
+from npss_registry.caseless import CaselessKeys
 from npss_registry.course import KINDS, Course, Judged, Stretch
-from npss_registry.errors import LogAway, LogBroken, LogTrimmed, NoLog, NotOneChain, StoreError
+from npss_registry.errors import Differs, LogAway, LogBroken, LogTrimmed, NoLog, NotOneChain, StoreError
 from npss_registry.examine import Examiner
 from npss_registry.ledger import Ledger, Registered
 from npss_registry.logs import Log, open_log, shown
@@ -21,7 +23,7 @@ from npss_registry.records import Setup
 from npss_registry.registry import setup_of, told
 from npss_registry.replay import MOST_BYTES, MOST_EVENTS, Limits, Replay, first_apart, parts, scheduled
 from npss_registry.shards import Shard, lacks
-from npss_registry.store import ShardRow, Store, Version
+from npss_registry.store import Registration, ShardRow, Store, Version
 
 # A stretch of a course has about so many moves, of which a schedule may need two events each.
 _MOVES = 250_000
@@ -37,6 +39,8 @@ class _World:
     tables: list[Tables]
     replay: Replay
     limits: Limits
+    # Of a caseless log alone: what makes its caseless keys under the last version.
+    caseless: Optional[CaselessKeys]
 
 
 class Judge:
@@ -60,9 +64,14 @@ class Judge:
             setup = setup_of(log, 0)
             if setup is None:
                 raise NoLog(shown(self._stores[0].log))
-            chain, tables = _chain([store.versions() for store in self._stores])
-            replay = Replay(program, folder, setup.form, setup.room, _write_files(folder, chain))
-            self._world = _World(setup, log, chain, tables, replay, Limits(most_events, most_bytes))
+            alike = [store for store in self._stores if store.setup.caseless == setup.caseless]
+            if not alike:
+                raise Differs(f"{self._stores[0].path}: it was set up as {told(self._stores[0].setup)}; the log as {told(setup)}")
+            chain, tables = _chain([store.versions() for store in alike], setup.caseless)
+            files = _write_files(folder, chain)
+            replay = Replay(program, folder, setup.form, setup.room, [name for two in files for name in two[:2]])
+            caseless = CaselessKeys(program, setup.form, files[-1]) if setup.caseless else None
+            self._world = _World(setup, log, chain, tables, replay, Limits(most_events, most_bytes), caseless)
             self._opened = opened.pop_all()
 
     def _copied(self, paths: Sequence[str], folder: str, opened: ExitStack) -> list[Store]:
@@ -122,12 +131,29 @@ class Judge:
         except LogBroken as error:
             self._find(f"shard {shard}", [str(error)])
             return
+        self._compare_caseless(shard, ledger, stores)
         for store in stores:
             judged = _ShardJudge(self._world, store, ledger, shard)
             judged.run()
             self._find(f"shard {shard}, {store.path}", judged.findings)
             self.unjudged |= judged.unjudged
             self.events += judged.events
+
+
+    def _compare_caseless(self, shard: int, ledger: Ledger, stores: Sequence[Store]) -> None:
+        """Each caseless key of the log and of the stores is the one that the programs make under the last version."""
+        if self._world.caseless is None:
+            return
+        found = {(one.string, one.caseless): f"shard {shard}: the log has at place {one.place}" for one in ledger.all}
+        for store in stores:
+            for row in store.past(shard):
+                found.setdefault((row.string, row.caseless), f"shard {shard}, {store.path}: the store has at place {row.place}")
+        unjudged = {string for string, _ in found if self._world.tables[-1].first_unassigned(string)}
+        self.unjudged |= unjudged
+        answers = self._world.caseless.answers({string for string, _ in found} - unjudged)
+        for (string, key), where in found.items():
+            if string in answers and answers[string] != f"={key}":
+                self.findings.append(f"{where} {string!r} with the caseless key {key!r}; the program answers {answers[string]!r}")
 
 
 class _ShardJudge:
@@ -195,9 +221,9 @@ class _ShardJudge:
 
     def _compare_rows(self, store: Judged) -> None:
         """The store's registrations are those of the log, up to the place where it stands, but for those whose ends were trimmed."""
-        wanted = {one.place: (one.string, one.key, one.owner, one.ended if one.ended and one.ended <= store.place else None)
+        wanted = {one.place: (one.string, *_keys(one), one.owner, one.ended if one.ended and one.ended <= store.place else None)
                   for one in self._ledger.all if one.place <= store.place}
-        found = {row.place: (row.string, row.key, row.owner, row.ended) for row in store.rows.values()
+        found = {row.place: (row.string, *_keys(row), row.owner, row.ended) for row in store.rows.values()
                  if row.ended is None or row.ended > self._ledger.begin}
         for place in sorted(wanted.keys() | found.keys()):
             if wanted.get(place) != found.get(place):
@@ -276,22 +302,31 @@ class _ShardJudge:
             self.findings.append(f"{one.string!r} at place {one.place}: the store has {reply!r}, its version {wanted!r}")
 
 
-def _chain(chains: Sequence[Sequence[Version]]) -> tuple[list[Version], list[Tables]]:
+def _keys(one: Union[Registered, Registration]) -> tuple[str, ...]:
+    """The key of a registration, and its caseless one where it has that."""
+    return (one.key,) if one.caseless is None else (one.key, one.caseless)
+
+
+def _chain(chains: Sequence[Sequence[Version]], caseless: bool) -> tuple[list[Version], list[Tables]]:
     """The versions of all stores as one chain, the earliest first, each once."""
     by_sums = {version.sums: version for chain in chains for version in chain}
     opened = sorted(((version.tables(), version) for version in by_sums.values()), key=lambda pair: pair[0].count)
     for (older, _), (newer, _) in zip(opened, opened[1:]):
-        first = newer.first_break(older)
+        first = newer.first_break(older, caseless)
         if first is not None:
             raise NotOneChain(first)
     return [version for _, version in opened], [tables for tables, _ in opened]
 
 
-def _write_files(folder: str, chain: Sequence[Version]) -> list[str]:
-    """Writes the files of a chain into a folder, and answers their paths."""
+def _write_files(folder: str, chain: Sequence[Version]) -> list[list[str]]:
+    """Writes the files of a chain into a folder, and answers their paths, those of each version by themselves."""
+    return [_write_version(folder, number, version) for number, version in enumerate(chain)]
+
+
+def _write_version(folder: str, number: int, version: Version) -> list[str]:
     files = []
-    for number, version in enumerate(chain):
-        for name, content in (("data", version.data), ("exclusions", version.exclusions)):
+    for name, content in (("data", version.data), ("exclusions", version.exclusions), ("folding", version.folding)):
+        if content is not None:
             files.append(os.path.join(folder, f"{name}{number}"))
             with open(files[-1], "wb") as file:
                 file.write(content)

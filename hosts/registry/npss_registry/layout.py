@@ -14,23 +14,26 @@ from npss_registry.rows import Version
 
 LOGGER = logging.getLogger("npss_registry")
 
-LAYOUT = 3
+LAYOUT = 4
 _REGISTERED = "CREATE UNIQUE INDEX registered ON registration (shard, key, string) WHERE ended IS NULL"
+_REGISTERED_CASELESS = ("CREATE UNIQUE INDEX registered_caseless ON registration (shard, caseless, string) "
+                        "WHERE ended IS NULL AND caseless IS NOT NULL")
 _REST = "CREATE TABLE image_rest (shard INTEGER NOT NULL, of TEXT NOT NULL, number INTEGER NOT NULL, body BLOB NOT NULL, PRIMARY KEY (shard, of, number))"
 _LOST = "CREATE TABLE lost (shard INTEGER NOT NULL, place INTEGER NOT NULL, string BLOB NOT NULL, key BLOB NOT NULL, owner TEXT NOT NULL)"
 # Images stand apart from places: a batch writes places, and would read what stands beside them.
 TABLES = f"""
 CREATE TABLE setup (layout INTEGER NOT NULL, form TEXT NOT NULL, room INTEGER NOT NULL, shards INTEGER NOT NULL,
     equivalents INTEGER NOT NULL, log TEXT NOT NULL, node TEXT NOT NULL, openings INTEGER NOT NULL, name TEXT NOT NULL DEFAULT '',
-    moving TEXT, most_bytes INTEGER NOT NULL DEFAULT 65536);
+    moving TEXT, most_bytes INTEGER NOT NULL DEFAULT 65536, caseless INTEGER NOT NULL DEFAULT 0);
 CREATE TABLE version (number INTEGER PRIMARY KEY, data BLOB NOT NULL, exclusions BLOB NOT NULL,
-    data_sum BLOB NOT NULL, exclusions_sum BLOB NOT NULL, assigned INTEGER NOT NULL);
+    data_sum BLOB NOT NULL, exclusions_sum BLOB NOT NULL, assigned INTEGER NOT NULL, folding BLOB, folding_sum BLOB);
 CREATE TABLE shard (number INTEGER PRIMARY KEY, place INTEGER NOT NULL, last BLOB, sum BLOB, image_sum BLOB, events INTEGER NOT NULL DEFAULT 0);
 CREATE TABLE image (number INTEGER PRIMARY KEY, image BLOB NOT NULL, image_place INTEGER NOT NULL, base BLOB NOT NULL,
     base_place INTEGER NOT NULL, base_version INTEGER NOT NULL);
 CREATE TABLE registration (shard INTEGER NOT NULL, place INTEGER NOT NULL, string BLOB NOT NULL, key BLOB NOT NULL,
-    owner TEXT NOT NULL, refused TEXT, parked INTEGER NOT NULL, ended INTEGER, PRIMARY KEY (shard, place)) WITHOUT ROWID;
+    owner TEXT NOT NULL, refused TEXT, parked INTEGER NOT NULL, ended INTEGER, caseless BLOB, PRIMARY KEY (shard, place)) WITHOUT ROWID;
 {_REGISTERED};
+{_REGISTERED_CASELESS};
 CREATE INDEX parked_place ON registration (shard, place) WHERE parked;
 CREATE TABLE journal (number INTEGER PRIMARY KEY AUTOINCREMENT, shard INTEGER NOT NULL, event TEXT NOT NULL,
     place INTEGER NOT NULL, version INTEGER NOT NULL);
@@ -63,6 +66,14 @@ ALTER TABLE setup ADD COLUMN most_bytes INTEGER NOT NULL DEFAULT 65536;
 {_REST};
 UPDATE setup SET layout = 3;
 """,
+    3: f"""
+ALTER TABLE setup ADD COLUMN caseless INTEGER NOT NULL DEFAULT 0;
+ALTER TABLE version ADD COLUMN folding BLOB;
+ALTER TABLE version ADD COLUMN folding_sum BLOB;
+ALTER TABLE registration ADD COLUMN caseless BLOB;
+{_REGISTERED_CASELESS};
+UPDATE setup SET layout = 4;
+""",
 }
 
 
@@ -83,8 +94,8 @@ def create(path: str, setup: Setup, log: str, version: Version, empty: bytes) ->
         base.execute("PRAGMA synchronous = FULL")
         base.execute("BEGIN")
         execute(base, TABLES)
-        base.execute("INSERT INTO setup VALUES (?, ?, ?, ?, ?, ?, ?, 0, ?, NULL, ?)",
-                     (LAYOUT, setup.form, setup.room, setup.shards, setup.equivalents, log, secrets.token_hex(8), setup.name, setup.most_bytes))
+        base.execute("INSERT INTO setup VALUES (?, ?, ?, ?, ?, ?, ?, 0, ?, NULL, ?, ?)",
+                     (LAYOUT, setup.form, setup.room, setup.shards, setup.equivalents, log, secrets.token_hex(8), setup.name, setup.most_bytes, setup.caseless))
         add_version(base, 0, version)
         base.executemany("INSERT INTO shard VALUES (?1, 0, NULL, ?2, ?2, 0)", ((number, NOTHING_READ) for number in range(setup.shards)))
         base.executemany("INSERT INTO image VALUES (?1, ?2, 0, ?2, 0, 0)", ((number, empty) for number in range(setup.shards)))
@@ -102,8 +113,10 @@ def create(path: str, setup: Setup, log: str, version: Version, empty: bytes) ->
 
 def add_version(base: sqlite3.Connection, number: int, version: Version) -> None:
     """Writes the next version of the chain, whose number that is."""
-    base.execute("INSERT INTO version VALUES (?, ?, ?, ?, ?, ?)",
-                 (number, zlib.compress(version.data), zlib.compress(version.exclusions), *version.sums, version.tables().count))
+    data, exclusions, folding = version.sums
+    base.execute("INSERT INTO version VALUES (?, ?, ?, ?, ?, ?, ?, ?)",
+                 (number, zlib.compress(version.data), zlib.compress(version.exclusions), data, exclusions, version.tables().count,
+                  None if version.folding is None else zlib.compress(version.folding), folding))
 
 
 def raise_layout(base: sqlite3.Connection, path: str) -> None:

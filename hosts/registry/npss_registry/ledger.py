@@ -14,7 +14,7 @@ from npss_registry.records import Claim, End, Forget, Name, Snapshot, SnapshotSu
 
 @dataclass
 class Registered:
-    """A registration as the log alone has it: its number among all, and the place that ended it."""
+    """A registration as the log alone has it: its number among all, the place that ended it, and its caseless key in a caseless log."""
 
     number: int
     place: int
@@ -22,6 +22,12 @@ class Registered:
     key: str
     owner: str
     ended: Optional[int] = None
+    caseless: Optional[str] = None
+
+    @property
+    def unique(self) -> str:
+        """Its unique key."""
+        return self.key if self.caseless is None else self.caseless
 
 
 class Step(NamedTuple):
@@ -71,7 +77,7 @@ class Ledger:
         self.begin = place
         names, told = snapshots.load(log, examiner.shard, place)
         for name in names:
-            claim = Claim(records.message(self._setup.form, name.string, name.key), name.owner, name.string, name.key)
+            claim = Claim(records.message(self._setup.form, name.string, name.key), name.owner, name.string, name.key, name.caseless)
             examiner.claim(name.place, claim)
             self._claim(name.place, claim)
         if len(self.all) != len(names):
@@ -80,7 +86,7 @@ class Ledger:
 
     def names(self) -> list[Name]:
         """What is registered in the end, in the order of its places."""
-        return [Name(one.place, one.string, one.key, one.owner) for one in self._by_string.values()]
+        return [Name(one.place, one.string, one.key, one.owner, one.caseless) for one in self._by_string.values()]
 
     def _add(self, place: int, record: records.Record) -> None:
         if isinstance(record, Claim):
@@ -92,20 +98,20 @@ class Ledger:
             found = self._by_string.get(record.string)
             if found and found.place == record.place:
                 del self._by_string[record.string]
-                self._keys[found.key] -= 1
+                self._keys[found.unique] -= 1
                 found.ended = place
                 self.steps.append(Step(place, False, found))
 
     def _claim(self, place: int, claim: Claim) -> None:
-        string, key = claim.string, claim.key
+        string, unique = claim.string, claim.unique
         full = len(self._by_string) >= self._setup.room
-        alike = not self._setup.equivalents and self._keys.get(key, 0) > 0
+        alike = not self._setup.equivalents and self._keys.get(unique, 0) > 0
         if string in self._by_string or alike or full:
             return
-        new = Registered(len(self.all), place, string, key, claim.owner)
+        new = Registered(len(self.all), place, string, claim.key, claim.owner, caseless=claim.caseless)
         self.all.append(new)
         self._by_string[string] = new
-        self._keys[key] = self._keys.get(key, 0) + 1
+        self._keys[unique] = self._keys.get(unique, 0) + 1
         self.steps.append(Step(place, True, new))
 
     def active(self, place: int) -> dict[str, Registered]:

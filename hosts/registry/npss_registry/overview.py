@@ -30,6 +30,7 @@ class Overview:
 
     node: str
     form: str
+    caseless: bool
     room: int
     most_bytes: int
     assigned: int
@@ -50,7 +51,7 @@ class Overlook:
 
     def overview(self) -> Overview:
         health, setup, parked = self._health, self._reader.setup, self._reader.parked()
-        return Overview(self._worker.node, setup.form, setup.room, setup.most_bytes, self._reader.tables.count, self._reader.versions,
+        return Overview(self._worker.node, setup.form, setup.caseless, setup.room, setup.most_bytes, self._reader.tables.count, self._reader.versions,
                         health.claims and self._worker.failure is None, health.log.why, health.store.why, self._watch.age(),
                         self._shards(parked.counts), parked.first)
 

@@ -7,6 +7,7 @@ from typing import Optional
 
 from npss_registry.explaining import MOST_ROWS, Row, Side, Verdict, hex_of
 from npss_registry.overview import Overview, ShardState
+from npss_registry.records import Setup
 from npss_registry.store import Registration
 
 STYLE = """
@@ -19,8 +20,14 @@ input[type=text] { font: inherit; padding: .2rem .4rem; width: 18rem; max-width:
 .yes { color: #060; color: light-dark(#060, #7d7); } .no { color: #a00; color: light-dark(#a00, #f88); } mark { background: #fd6; color: #000; }
 .code { font-family: monospace; unicode-bidi: isolate; direction: ltr; } bdi { overflow-wrap: anywhere; } bdi .code { white-space: nowrap; }
 """
-NOTE = ("Names that only look alike are not judged here: letters of two scripts, capitals and small letters, a digit for a "
-        "letter are different names.")
+_NOTE = "Names that only look alike are not judged here: letters of two scripts, {}a digit for a letter are different names.{}"
+
+
+def _note(caseless: bool) -> str:
+    """What isn't judged."""
+    return _NOTE.format("", " Capitals and small letters are one.") if caseless else _NOTE.format("capitals and small letters, ", "")
+
+
 # So many characters of a text are shown.
 MOST_SHOWN = 1000
 # What turns the direction of a text, beside what is no sign at all.
@@ -64,10 +71,10 @@ def home(told: Overview) -> str:
         "Registry of names",
         f'<h2>Who has a name?</h2><form method="post" action="/search">{_field("name", "Name")}<button>Search</button></form>',
         f'<h2>Are two names the same?</h2><form method="post" action="/why">{_field("left", "One")}{_field("right", "Other")}'
-        f"<button>Compare</button></form><p>{NOTE}</p>",
-        f"<h2>This node</h2><p>Node <span class=code>{escape(told.node)}</span>, form {escape(told.form.upper())}; its version of Unicode "
-        f"assigns {told.assigned} code points. A parked name has a code point that this version lacks: it is registered, and is taken after "
-        f"an upgrade.</p>{_log(told)}{status}{_parked(told)}", home=True)
+        f"<button>Compare</button></form><p>{_note(told.caseless)}</p>",
+        f"<h2>This node</h2><p>Node <span class=code>{escape(told.node)}</span>, {'caseless, ' if told.caseless else ''}form "
+        f"{escape(told.form.upper())}; its version of Unicode assigns {told.assigned} code points. A parked name has a code point that this "
+        f"version lacks: it is registered, and is taken after an upgrade.</p>{_log(told)}{status}{_parked(told)}", home=True)
 
 
 def _log(told: Overview) -> str:
@@ -112,32 +119,33 @@ def _codes(text: str, marked: Optional[int] = None) -> str:
     return f'<span class="code">{" ".join(codes)}{" .." if len(text) > MOST_ROWS else ""}</span>'
 
 
-def why(form: str, verdict: Verdict) -> str:
+def why(setup: Setup, verdict: Verdict) -> str:
     """Why two names are the same or not."""
+    caseless = setup.caseless
     fields = _field("left", "One", verdict.left.text) + _field("right", "Other", verdict.right.text)
     again = f'<form method="post" action="/why">{fields}<button>Compare</button></form>'
-    return page("Are these names the same?", again, f"<p>{_verdict(form, verdict)}</p>", _side("One", verdict.left, verdict.place),
-                _side("Other", verdict.right, verdict.place), f"<p>{NOTE}</p>")
+    return page("Are these names the same?", again, f"<p>{_verdict(setup, verdict)}</p>", _side("One", verdict.left, verdict.place, caseless),
+                _side("Other", verdict.right, verdict.place, caseless), f"<p>{_note(caseless)}</p>")
 
 
-def _verdict(form: str, verdict: Verdict) -> str:
+def _verdict(setup: Setup, verdict: Verdict) -> str:
+    keys = f"their {'caseless ' if setup.caseless else ''}keys under {escape(setup.form.upper())}"
     if verdict.same is None:
         return '<strong class="no">That can\'t be told</strong>: a code point is not assigned in this node\'s version of Unicode.'
     if verdict.same:
-        return f'<strong class="yes">The same name</strong>: their keys under {escape(form.upper())} are equal.'
-    return (f'<strong class="no">Two names</strong>: their keys under {escape(form.upper())} differ first at code point '
-            f"{(verdict.place or 0) + 1}.")
+        return f'<strong class="yes">The same name</strong>: {keys} are equal.'
+    return f'<strong class="no">Two names</strong>: {keys} differ first at code point {(verdict.place or 0) + 1}.'
 
 
-def _side(title: str, one: Side, place: Optional[int]) -> str:
-    rows = [_row(row) for row in one.rows]
+def _side(title: str, one: Side, place: Optional[int], caseless: bool) -> str:
+    rows = [(*_row(row), *([f'<span class="code">{row.folding}</span>'] if caseless else [])) for row in one.rows]
     more = f"<p>These are its first {MOST_ROWS} code points of {len(one.text)}.</p>" if len(one.text) > len(rows) else ""
     if one.key is None:
         key = f'<span class="no">none: {escape(str(one.refusal))}</span>'
     else:
         key = f"{shown(one.key)} {_codes(one.key, place)}"
-    heads = ("code point", "name", "class", "mapping", "full decomposition")
-    return f"<h2>{title}: {shown(one.text)}</h2>{table(heads, rows)}{more}<p>Key: {key}</p>"
+    heads = ("code point", "name", "class", "mapping", "full decomposition", *(["folding"] if caseless else []))
+    return f"<h2>{title}: {shown(one.text)}</h2>{table(heads, rows)}{more}<p>{'Caseless key' if caseless else 'Key'}: {key}</p>"
 
 
 def _row(row: Row) -> tuple[str, ...]:

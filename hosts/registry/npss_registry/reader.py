@@ -37,17 +37,21 @@ class Reader:
         self._stood: Optional[tuple[int, list[tuple[int, int]]]] = None
 
     def find(self, name: str) -> list[Registration]:
-        """The registrations whose keys are equal to that of a name. Raises Refused of one that has none."""
-        key = self.tables.key(name, self.setup.form)
+        """The registrations whose unique keys are equal to that of a name. Raises Refused of one that has none."""
+        unique = self._unique_of(name)
         with plainly(self._path):
-            return self._store.with_key(shard_of(key, self.setup.shards), key)
+            return self._store.with_key(shard_of(unique, self.setup.shards), unique)
 
     def same(self, left: str, right: str) -> Optional[bool]:
-        """Whether two registered names are equivalent; None where one of them isn't registered."""
-        keys = [self.tables.key(name, self.setup.form) for name in (left, right)]
+        """Whether two registered names are one, by their unique keys; None where one of them isn't registered."""
+        keys = [self._unique_of(name) for name in (left, right)]
         with plainly(self._path):
             held = [self._store.holder(shard_of(key, self.setup.shards), name, key) for name, key in zip((left, right), keys)]
         return keys[0] == keys[1] if all(held) else None
+
+    def _unique_of(self, name: str) -> str:
+        """The key by which names are one: the caseless one in a caseless log."""
+        return self.tables.key(name, self.setup.form, self.setup.caseless)
 
     def parked(self) -> Parked:
         """What is parked, which is looked for anew where somebody wrote to the store."""

@@ -10,7 +10,7 @@ import json
 import secrets
 from collections.abc import Iterable
 from dataclasses import dataclass, field, replace
-from typing import NamedTuple, Union
+from typing import NamedTuple, Optional, Union
 
 from npss import Form
 
@@ -33,7 +33,8 @@ _ENCODER, _DECODER = json.JSONEncoder(ensure_ascii=False, separators=(",", ":"))
 class Setup:
     """What all stores of a log share. It is each shard's first record.
 
-    A name has at most `most_bytes` bytes of UTF-8; of a log that tells none, as many as a node takes.
+    A name has at most `most_bytes` bytes of UTF-8; of a log that tells none, as many as a node takes. In a `caseless` log two
+    names are one where their caseless keys are equal, else where their keys are.
 
     `name` is random, and no other log has it; a log whose setup is of the first layout has none. Where the log goes on
     from an earlier one, `before` is the name of that, and `kept` how many claims were carried over from it: they stand
@@ -48,15 +49,22 @@ class Setup:
     before: str = field(default="", compare=False)
     kept: int = field(default=0, compare=False)
     most_bytes: int = MOST_BYTES
+    caseless: bool = False
 
 
 class Claim(NamedTuple):
-    """Somebody claims a string. The message of a node holds the string and its key."""
+    """Somebody claims a string. The message of a node holds the string and its key; of a caseless log the record holds its caseless key too."""
 
     message: bytes
     owner: str
     string: str
     key: str
+    caseless: Optional[str] = None
+
+    @property
+    def unique(self) -> str:
+        """Its unique key, by which names are one: its caseless key in a caseless log, else its key."""
+        return self.key if self.caseless is None else self.caseless
 
 
 class Forget(NamedTuple):
@@ -88,12 +96,13 @@ class SnapshotSum(NamedTuple):
 
 
 class Name(NamedTuple):
-    """A registered name, as the log alone has it, with the place at which it was registered."""
+    """A registered name, as the log alone has it, with the place at which it was registered, and its caseless key in a caseless log."""
 
     place: int
     string: str
     key: str
     owner: str
+    caseless: Optional[str] = None
 
 
 Record = Union[Setup, Claim, Forget, End, Snapshot, SnapshotSum]
@@ -110,14 +119,14 @@ def message(form: Form, string: str, key: str) -> bytes:
     return form_byte(form) + b"".join(len(part).to_bytes(_LENGTH, "big") + part for part in parts)
 
 
-def claim_of(message: bytes, owner: str) -> Claim:
-    """The claim of a message. ValueError where it doesn't end with its key."""
+def claim_of(message: bytes, owner: str, caseless: Optional[str] = None) -> Claim:
+    """The claim of a message, in a caseless log with its caseless key. ValueError where the message doesn't end with its key."""
     at = 1 + _LENGTH
     end = at + int.from_bytes(message[1:at], "big")
     behind = end + _LENGTH
     if len(message) != behind + int.from_bytes(message[end:behind], "big"):
         raise ValueError("the message doesn't end with its key")
-    return Claim(message, owner, message[at:end].decode(), message[behind:].decode())
+    return Claim(message, owner, message[at:end].decode(), message[behind:].decode(), caseless)
 
 
 def form_of(name: object) -> Form:
@@ -132,6 +141,8 @@ def spelled(record: Record) -> bytes:
     """The bytes of a record, JSON that a person can read. No two calls answer the same bytes."""
     if isinstance(record, Claim):
         told: dict[str, object] = {"claim": base64.b64encode(record.message).decode(), "owner": record.owner}
+        if record.caseless is not None:
+            told["caseless"] = record.caseless
     elif isinstance(record, Forget):
         told = {"forget": record.string, "place": record.place}
     elif isinstance(record, End):
@@ -148,12 +159,16 @@ def spelled(record: Record) -> bytes:
 
 def _told(setup: Setup) -> dict[str, object]:
     """What a setup tells, and a snapshot once more."""
-    return {"setup": 0, "form": setup.form, "room": setup.room, "shards": setup.shards, "equivalents": setup.equivalents,
-            "name": setup.name, "before": setup.before, "most_bytes": setup.most_bytes}
+    told: dict[str, object] = {"setup": 0, "form": setup.form, "room": setup.room, "shards": setup.shards, "equivalents": setup.equivalents,
+                               "name": setup.name, "before": setup.before, "most_bytes": setup.most_bytes}
+    return {**told, "caseless": True} if setup.caseless else told
 
 
-def read(place: int, body: bytes, layout: int = 1) -> Record:
-    """The record of bytes at a place of a log that begins with a setup of a layout. LogBroken where they are none."""
+def read(place: int, body: bytes, layout: int = 1, caseless: bool = False) -> Record:
+    """The record of bytes at a place of a log that begins with a setup of a layout. LogBroken where they are none.
+
+    In a `caseless` log a claim without its caseless key is none. In another log what stands there of it isn't read.
+    """
     try:
         text = body.decode()
         told, end = _DECODER.raw_decode(text)
@@ -161,15 +176,16 @@ def read(place: int, body: bytes, layout: int = 1) -> Record:
             raise ValueError("more stands behind it")
         if layout != 1:
             _check_nonce(told)
-        return _record(told)
+        return _record(told, caseless)
     except (KeyError, RecursionError, TypeError, ValueError) as error:
         raise LogBroken(place, f"what stands there is no record: {error!r}") from error
 
 
-def _record(told: dict[str, object]) -> Record:
+def _record(told: dict[str, object], caseless: bool) -> Record:
     """The record of what was spelled. KeyError, TypeError or ValueError where it is none."""
     if "claim" in told:
-        return claim_of(base64.b64decode(_text(told["claim"]), validate=True), _text(told["owner"]))
+        key = _text(told["caseless"]) if caseless else None
+        return claim_of(base64.b64decode(_text(told["claim"]), validate=True), _text(told["owner"]), key)
     if "forget" in told:
         return Forget(_text(told["forget"]), _number(told["place"]))
     if "end" in told:
@@ -193,12 +209,22 @@ def _setup(told: dict[str, object]) -> Union[Setup, Snapshot]:
     most = _number(told.get("most_bytes", MOST_BYTES))
     if not 0 < most <= MOST_BYTES:
         raise ValueError(f"a name has 1 to {MOST_BYTES} bytes at most, not {most}")
-    found = replace(first, name=_text(told["name"]), before=_text(told["before"]), most_bytes=most)
+    found = replace(first, name=_text(told["name"]), before=_text(told["before"]), most_bytes=most, caseless=_is_caseless(told, first))
     if told["setup"] == 3:  # of a log whose setup is of the first layout too, which has no name
         return Snapshot(found)
     if not found.name:
         raise ValueError("the log's name is empty")
     return replace(found, kept=_number(told["kept"]))
+
+
+def _is_caseless(told: dict[str, object], first: Setup) -> bool:
+    """Whether a setup is that of a caseless log, which refuses equivalents."""
+    found = told.get("caseless", False)
+    if not isinstance(found, bool):
+        raise TypeError(f"{found!r} is neither true nor false")
+    if found and first.equivalents:
+        raise ValueError("a caseless log allows no equivalents")
+    return found
 
 
 def _check_nonce(told: dict[str, object]) -> None:
@@ -245,7 +271,7 @@ def sum_of_names(names: Iterable[Name]) -> tuple[int, bytes]:
     """How many names there are, and their sum, which tells all of them in their order."""
     count, made = 0, hashlib.sha256()
     for count, name in enumerate(names, start=1):
-        parts = [text.encode() for text in name[1:]]
+        parts = [text.encode() for text in name[1:] if text is not None]
         made.update(b"".join([name.place.to_bytes(8, "big"), *(len(part).to_bytes(8, "big") + part for part in parts)]))
     return count, made.digest()
 

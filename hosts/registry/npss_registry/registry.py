@@ -43,7 +43,8 @@ def init(path: str, version: Version, setup: Optional[Setup], log_name: str) -> 
     """Makes a store over a log, and sets the log up where nobody has. Without a setup the log's own is taken.
 
     Where it tells 0 for the most bytes of a name, a new log allows 1,024, and of another one they are taken. A relative path of
-    the log counts from the store's folder. StoreError of a log that `relog` has begun and not ended.
+    the log counts from the store's folder. StoreError of a log that `relog` has begun and not ended, of a version without
+    CaseFolding.txt where the log is caseless, and of one with it where the log isn't.
     """
     check_name(log_name)
     tables = version.tables()
@@ -54,12 +55,14 @@ def init(path: str, version: Version, setup: Optional[Setup], log_name: str) -> 
         found = setup_of(log, 0)
         if found is None:
             wanted = setup or Setup("nfc", 65536, 1, False, most_bytes=0)
+            check_files(version, wanted)
             _set_up(log, replace(wanted, most_bytes=wanted.most_bytes or MOST_BYTES))
             found = setup_of(log, 0)
             if found is None:
                 raise LogAway("the log: its setup could not be written")
         if setup is not None and replace(setup, name=found.name, most_bytes=setup.most_bytes or found.most_bytes) != found:
             raise Differs(f"the log was set up otherwise: {told(found)}")
+        check_files(version, found)
         check_whole(log, found, log_name)
     finally:
         log.close()
@@ -67,9 +70,18 @@ def init(path: str, version: Version, setup: Optional[Setup], log_name: str) -> 
     return found
 
 
+def check_files(version: Version, setup: Setup) -> None:
+    """StoreError where a version hasn't the files that a log wants."""
+    if setup.caseless and version.folding is None:
+        raise StoreError("the log is caseless: a version has a third file there, CaseFolding.txt, behind the other two")
+    if not setup.caseless and version.folding is not None:
+        raise StoreError("the log is not caseless: a version has two files there, and no CaseFolding.txt; `npss-registry init --caseless` "
+                         "begins a log that is")
+
+
 def told(setup: Setup) -> str:
     """A setup for people."""
-    return (f"form {setup.form}, room {setup.room}, shards {setup.shards}, equivalents {'allowed' if setup.equivalents else 'refused'}"
+    return (f"form {setup.form}{', caseless' if setup.caseless else ''}, room {setup.room}, shards {setup.shards}, equivalents {'allowed' if setup.equivalents else 'refused'}"
             + f", names of at most {setup.most_bytes} bytes" + (f", name {setup.name}" if setup.name else ""))
 
 
@@ -264,7 +276,7 @@ class Registry:
             for index, (string, owner) in enumerate(claims):
                 try:
                     claim = self._claim_of(string, owner)
-                    made.append((index, self._shard_of(claim.key), claim))
+                    made.append((index, self._shard_of(claim.unique), claim))
                 except Refused as error:
                     outcomes[index] = error
             self.catch_up({number for _, number, _ in made})
@@ -288,10 +300,10 @@ class Registry:
         message = self._speller.message(string)
         assert message is not None
         self._speller.forget(string)
-        return records.claim_of(message, owner)
+        return records.claim_of(message, owner, self._unique_of(_text(string)) if self.setup.caseless else None)
 
-    def _shard_of(self, key: str) -> int:
-        return records.shard_of(key, self.setup.shards)
+    def _shard_of(self, unique: str) -> int:
+        return records.shard_of(unique, self.setup.shards)
 
     def _published(self, publish: Sequence[tuple[int, int, bytes]]) -> dict[int, Outcome]:
         """Writes records to the log, and answers when each was read back: what became of it, by its index."""
@@ -308,10 +320,10 @@ class Registry:
     def forget(self, string: Union[str, bytes], owner: Optional[str] = None) -> Outcome:
         """Gives a string up; where an owner is named, only that owner's. Raises Refused of what can't be registered."""
         with self._lock:
-            name, key = self._parts_of(string)
-            number = self._shard_of(key)
+            name, unique = self._parts_of(string)
+            number = self._shard_of(unique)
             self.catch_up([number])
-            holder = self.store.holder(number, name, key)
+            holder = self.store.holder(number, name, unique)
             if holder is None:
                 return Outcome("not registered")
             if owner is not None and holder.owner != owner:
@@ -319,28 +331,31 @@ class Registry:
             return self._published([(0, number, records.spelled(Forget(name, holder.place)))])[0]
 
     def find(self, string: Union[str, bytes]) -> list[Registration]:
-        """The registrations whose keys are equal to that of a string, as far as the log was read."""
+        """The registrations whose unique keys are equal to that of a string, as far as the log was read."""
         with self._lock:
-            name = _text(string)
-            key = self.tables.key(name, self.setup.form)
-            return self.store.with_key(self._shard_of(key), key)
+            _, unique = self._parts_of(string)
+            return self.store.with_key(self._shard_of(unique), unique)
 
     def same(self, left: Union[str, bytes], right: Union[str, bytes]) -> Optional[bool]:
-        """Whether two registered strings are equivalent; None where one of them isn't registered."""
+        """Whether two registered strings are one name, by their unique keys; None where one of them isn't registered."""
         with self._lock:
-            (one, key), (other, other_key) = self._parts_of(left), self._parts_of(right)
-            first, second = self._shard_of(key), self._shard_of(other_key)
-            if not self.store.holder(first, one, key) or not self.store.holder(second, other, other_key):
+            (one, unique), (other, other_unique) = self._parts_of(left), self._parts_of(right)
+            first, second = self._shard_of(unique), self._shard_of(other_unique)
+            if not self.store.holder(first, one, unique) or not self.store.holder(second, other, other_unique):
                 return None
-            if first != second:
-                return False
+            if first != second or self.setup.caseless:  # a node compares keys, and no caseless ones
+                return unique == other_unique
             told = self.shards[first].node.same(one, other)
-            return key == other_key if told is None else told
+            return unique == other_unique if told is None else told
 
     def _parts_of(self, string: Union[str, bytes]) -> tuple[str, str]:
-        """A string as text, and its key."""
+        """A string as text, and its unique key."""
         name = _text(string)
-        return name, self.tables.key(name, self.setup.form)
+        return name, self._unique_of(name)
+
+    def _unique_of(self, name: str) -> str:
+        """The key by which names are one: the caseless one in a caseless log."""
+        return self.tables.key(name, self.setup.form, self.setup.caseless)
 
     def status(self) -> list[ShardStatus]:
         with self._lock:
@@ -357,10 +372,14 @@ class Registry:
     # ---- a new version
 
     def upgrade(self, version: Version) -> list[Registration]:
-        """Goes on to a version that extends the present one; answers what is still parked. All of it is done, or none."""
+        """Goes on to a version that extends the present one; answers what is still parked. All of it is done, or none.
+
+        StoreError of one that hasn't the files that the log wants, NotOneChain of one that doesn't extend it, in a caseless log with its folding.
+        """
         with self._lock:
+            check_files(version, self.setup)
             tables = version.tables()
-            first = tables.first_break(self.tables)
+            first = tables.first_break(self.tables, self.setup.caseless)
             if first is not None:
                 raise NotOneChain(first)
             if version.sums == self.store.versions()[-1].sums:

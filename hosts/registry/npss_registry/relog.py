@@ -217,14 +217,14 @@ class _Moving:
 
     def _missing(self, shard: int, rows: Sequence[Registration]) -> Iterator[tuple[int, bytes]]:
         """The claims of registrations that aren't in the new log yet; those that are have to be the first ones."""
-        setup, *found = [records.read(place, body) for place, body in whole(self._log, shard)]
+        setup, *found = [records.read(place, body, caseless=self._old.caseless) for place, body in whole(self._log, shard)]
         if not isinstance(setup, Setup) or setup.kept != len(rows) or len(found) > len(rows):
             raise self._foreign()
         for record, row in zip(found, rows):
-            if not isinstance(record, Claim) or (record.string, record.key, record.owner) != (row.string, row.key, row.owner):
+            if not isinstance(record, Claim) or (record.string, record.key, record.owner, record.caseless) != (row.string, row.key, row.owner, row.caseless):
                 raise self._foreign()
         for row in rows[len(found):]:
-            yield shard, records.spelled(records.claim_of(records.message(setup.form, row.string, row.key), row.owner))
+            yield shard, records.spelled(records.claim_of(records.message(setup.form, row.string, row.key), row.owner, row.caseless))
 
     def _go_over(self, store: Store) -> None:
         """A store goes over to the new log, and has read it then."""

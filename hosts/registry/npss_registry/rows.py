@@ -6,12 +6,15 @@ from typing import NamedTuple, Optional
 
 from npss import Tables
 
+# What is kept of the files of a version, and of a third one where it has that.
+Sums = tuple[bytes, bytes, Optional[bytes]]
+
 
 class Registration(NamedTuple):
     """A string that somebody has, or had until the place `ended`.
 
     `refused` is what the node answered where it lacked a code point of the string when it came; `parked` whether it
-    lacks one still.
+    lacks one still. `caseless` is its caseless key, in a caseless log alone.
     """
 
     place: int
@@ -21,6 +24,7 @@ class Registration(NamedTuple):
     refused: Optional[str]
     parked: bool
     ended: Optional[int]
+    caseless: Optional[str] = None
 
 
 @dataclass(frozen=True)
@@ -57,15 +61,20 @@ class Event:
 
 @dataclass(frozen=True)
 class Version:
-    """The two files of a version."""
+    """The files of a version: two, or three with CaseFolding.txt, which a caseless log wants."""
 
     data: bytes
     exclusions: bytes
+    folding: Optional[bytes] = None
 
     def tables(self) -> Tables:
-        return Tables.open(self.data, self.exclusions)
+        return Tables.open(self.data, self.exclusions, self.folding)
 
     @property
-    def sums(self) -> tuple[bytes, bytes]:
-        """The SHA-256 of each file, by which a version is known."""
-        return hashlib.sha256(self.data).digest(), hashlib.sha256(self.exclusions).digest()
+    def sums(self) -> Sums:
+        """The SHA-256 of each file, by which a version is known; None of a folding file that it hasn't."""
+        return _sum(self.data), _sum(self.exclusions), None if self.folding is None else _sum(self.folding)
+
+
+def _sum(content: bytes) -> bytes:
+    return hashlib.sha256(content).digest()

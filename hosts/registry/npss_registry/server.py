@@ -34,7 +34,8 @@ _STATUSES = {"registered": 200, "taken": 409, "full": 507, "forgotten": 200, "no
 
 
 def _told(found: Registration) -> dict[str, Any]:
-    return {"name": found.string, "owner": found.owner, "place": found.place, "key": found.key, "parked": found.parked}
+    told = {"name": found.string, "owner": found.owner, "place": found.place, "key": found.key, "parked": found.parked}
+    return told if found.caseless is None else {**told, "caseless": found.caseless}
 
 
 def _answered(outcome: Outcome) -> JSONResponse:
@@ -110,7 +111,8 @@ class Service:
         names: dict[int, list[str]] = {}
         for shard, name in told.parked:
             names.setdefault(shard, []).append(name)
-        return JSONResponse({"node": told.node, "assigned": told.assigned, "form": told.form, "room": told.room, "most_bytes": told.most_bytes, "versions": told.versions,
+        return JSONResponse({"node": told.node, "assigned": told.assigned, "form": told.form, "caseless": told.caseless, "room": told.room,
+                             "most_bytes": told.most_bytes, "versions": told.versions,
                              "claims": told.claims, "log": {"away": told.log_away, "age": told.age}, "store": {"away": told.store_away},
                              "shards": [_state(one, names.get(one.shard, [])) for one in told.shards]})
 
@@ -147,12 +149,12 @@ class Service:
             return HTMLResponse(await asyncio.to_thread(self._page_why, left, right))
 
     def _page_why(self, left: str, right: str) -> str:
-        return pages.why(self._reader.setup.form, self._compared(left, right))
+        return pages.why(self._reader.setup, self._compared(left, right))
 
     def _compared(self, left: str, right: str) -> Verdict:
         if self._names is None:
             self._names = Names(self._reader.newest)
-        return compared(self._reader.tables, self._names, self._reader.setup.form, left, right)
+        return compared(self._reader.tables, self._names, self._reader.setup, left, right)
 
     # ---- what isn't answered
 

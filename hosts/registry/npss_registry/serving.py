@@ -120,9 +120,9 @@ class Node:
         host, port = self._sockets[0].getsockname()[:2]
         address = f"[{host}]" if ":" in host else host
         told = "to be read alone" if self._tokens is None else f"{len(self._tokens)} tokens" if len(self._tokens) > 1 else "one token"
-        LOGGER.info("serves %s at http://%s:%d/, %s; node %s, %s, version %d of Unicode in this store assigns %d code points",
-                    self._asked.store, address, port, told, self._worker.node, self._reader.setup.form.upper(), self._reader.versions,
-                    self._reader.tables.count)
+        LOGGER.info("serves %s at http://%s:%d/, %s; node %s, %s%s, version %d of Unicode in this store assigns %d code points",
+                    self._asked.store, address, port, told, self._worker.node, "caseless " if self._reader.setup.caseless else "",
+                    self._reader.setup.form.upper(), self._reader.versions, self._reader.tables.count)
 
     def _ended(self) -> int:
         self._watch.stop()

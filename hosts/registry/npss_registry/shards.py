@@ -1,7 +1,7 @@
 """A shard: the registered strings of its log, and the proved node that holds those that its version assigns."""
 
 from collections.abc import Iterator, Sequence
-from typing import NamedTuple, Optional
+from typing import NamedTuple, Optional, Union
 
 from npss import Accepted, Node, Refused, Tables, Unassigned
 
@@ -19,7 +19,7 @@ SAVE_AFTER = 4096
 class Outcome(NamedTuple):
     """What became of a record: `registered`, `taken`, `full`, `forgotten` or `not registered`.
 
-    `holder` is the registration that has the string, or one whose key is equal; it is `new` where this record made it.
+    `holder` is the registration that has the string, or one whose unique key is equal; it is `new` where this record made it.
     """
 
     what: str
@@ -107,7 +107,7 @@ class Shard:
             if isinstance(record, Forget):
                 ended += row is not None and row.ended == place
             elif row is not None:
-                if not isinstance(record, Claim) or (row.string, row.key, row.owner) != (record.string, record.key, record.owner):
+                if not isinstance(record, Claim) or self._claim_made(row) != record:
                     raise LogBroken(place, f"the store has {row.string!r} of {row.owner!r} from it; see `npss-registry relog`")
                 made += 1
             if place > image_place:
@@ -187,21 +187,21 @@ class Shard:
 
     def _register(self, name: Name) -> None:
         """Registers a name as the log did at its place, where the record isn't any more."""
-        claim = self._claim_made(name.string, name.key, name.owner)
+        claim = self._claim_made(name)
         self._examiner.claim(name.place, claim)
         if self.decided(claim):
             raise LogBroken(self.place, f"what stands beside the log as registered there can't be so at once: {name.string!r} is one too many")
         self._add(name.place, claim)
 
-    def _claim_made(self, string: str, key: str, owner: str) -> Claim:
+    def _claim_made(self, of: Union[Name, Registration]) -> Claim:
         """The claim of which a record was."""
-        return Claim(records.message(self._store.setup.form, string, key), owner, string, key)
+        return Claim(records.message(self._store.setup.form, of.string, of.key), of.owner, of.string, of.key, of.caseless)
 
     def _check_sum(self, place: int, told: SnapshotSum) -> None:
         """What this node registered at its last snapshot is what the log tells of it."""
         if told.place == self._base_place:
             rows = self._store.registered_at(self.number, told.place)
-            if records.sum_of_names(Name(*row[:4]) for row in rows) != (told.names, told.sum):
+            if records.sum_of_names(Name(*row[:4], row.caseless) for row in rows) != (told.names, told.sum):
                 raise LogBroken(place, f"what this node registered at the snapshot at place {told.place} isn't what the log tells of it")
 
     def check_end(self) -> None:
@@ -226,10 +226,10 @@ class Shard:
         return Outcome("full") if self._count >= self._store.setup.room else None
 
     def _holder(self, claim: Claim) -> Optional[Registration]:
-        """The registration that has a claim's string, or one whose key is equal where that is refused."""
+        """The registration that has a claim's string, or one whose unique key is equal where that is refused."""
         if self._store.setup.equivalents:
-            return self._store.holder(self.number, claim.string, claim.key)
-        return self._store.holder_of_key(self.number, claim.key)
+            return self._store.holder(self.number, claim.string, claim.unique)
+        return self._store.holder_of_key(self.number, claim.unique)
 
     def _claim(self, place: int, claim: Claim) -> Outcome:
         return self.decided(claim) or Outcome("registered", self._add(place, claim), new=True)
@@ -237,7 +237,7 @@ class Shard:
     def _add(self, place: int, claim: Claim) -> Registration:
         """Registers a claim."""
         refused = self._take(place, claim)
-        new = Registration(place, claim.string, claim.key, claim.owner, refused, refused is not None, None)
+        new = Registration(place, claim.string, claim.key, claim.owner, refused, refused is not None, None, claim.caseless)
         self._store.register(self.number, new)
         self._count += 1
         return new
@@ -294,7 +294,7 @@ class Shard:
     def _claim_at(self, parked: Registration) -> Claim:
         body = record_at(self._log, self.number, parked.place)
         if body is None and parked.place < self._base_place and parked.place < (snapshots.trimmed_to(self._log, self.number) or 0):
-            return self._claim_made(parked.string, parked.key, parked.owner)
+            return self._claim_made(parked)
         claim = None if body is None else self._record(parked.place, body)
         if not isinstance(claim, Claim):
             raise LogBroken(parked.place, "the claim of a parked string is missing")
@@ -311,6 +311,7 @@ class Shard:
         for place, claim in parked:
             if claim.string in self.node:
                 raise StoreError(f"{self._store.path}: it marks {claim.string!r} as parked, which its node keeps; see `npss-registry check`")
+            self._examiner.claim(place, claim)
             if self._take(place, claim) is None:
                 self._store.unpark(self.number, place)
                 self._store.note(self.number, Event("taken", place, version))

@@ -27,7 +27,7 @@ class Kept(NamedTuple):
     @property
     def size(self) -> int:
         """How many bytes the names have, about."""
-        return sum(len(name.string) + len(name.key) + len(name.owner) for name in self.names)
+        return sum(len(text) for name in self.names for text in name[1:] if text is not None)
 
 
 def trimmed_to(log: Log, shard: int) -> Optional[int]:
@@ -75,7 +75,7 @@ def _parts(names: Iterable[Name]) -> Iterator[bytes]:
     part: list[str] = []
     size = 0
     for name in names:
-        part.append(_ENCODER.encode([name.place, name.string, None if name.key == name.string else name.key, name.owner]))
+        part.append(_ENCODER.encode(_told(name)))
         size += len(part[-1])
         if size >= _PART:
             yield _packed(part)
@@ -84,13 +84,19 @@ def _parts(names: Iterable[Name]) -> Iterator[bytes]:
         yield _packed(part)
 
 
+def _told(name: Name) -> list[object]:
+    """A name as a part tells it."""
+    told = [name.place, name.string, None if name.key == name.string else name.key, name.owner]
+    return told if name.caseless is None else [*told, name.caseless]
+
+
 def _packed(part: Sequence[str]) -> bytes:
     return zlib.compress(f"[{','.join(part)}]".encode())
 
 
-def _name(place: object, string: object, key: object, owner: object) -> Name:
-    """A name of a part. TypeError where it is none."""
-    made = (place, string, string if key is None else key, owner)
-    if type(place) is not int or not all(isinstance(text, str) for text in made[1:]):
+def _name(place: object, string: object, key: object, owner: object, *caseless: object) -> Name:
+    """A name of a part, whose caseless key stands last where it has one. TypeError where it is none."""
+    made = (place, string, string if key is None else key, owner, *caseless)
+    if type(place) is not int or len(caseless) > 1 or not all(isinstance(text, str) for text in made[1:]):
         raise TypeError(f"{made!r} is no name")
-    return Name(place, str(made[1]), str(made[2]), str(made[3]))
+    return Name(place, *map(str, made[1:]))

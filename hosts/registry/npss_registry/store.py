@@ -20,11 +20,13 @@ from npss_registry.records import NOTHING_READ, Setup, form_of
 from npss_registry.rows import Event as Event
 from npss_registry.rows import Registration as Registration
 from npss_registry.rows import ShardRow as ShardRow
+from npss_registry.rows import Sums
 from npss_registry.rows import Version as Version
 
 # Registrations by an index: left to itself SQLite walks the places of the whole shard.
-_FOUND = "SELECT place, string, key, owner, refused, parked, ended FROM registration"
+_FOUND = "SELECT place, string, key, owner, refused, parked, ended, caseless FROM registration"
 _BY_KEY = f"{_FOUND} INDEXED BY registered WHERE shard = ? AND key = ? AND ended IS NULL"
+_BY_CASELESS_KEY = f"{_FOUND} INDEXED BY registered_caseless WHERE shard = ? AND caseless = ? AND ended IS NULL"
 _PARKED = f"{_FOUND} INDEXED BY parked_place WHERE shard = ? AND parked AND ended IS NULL ORDER BY place"
 _BY_PLACE = f"{_FOUND} WHERE shard = ?"
 # SQLite keeps so many KiB of the file, and copies what it wrote back into it after so many pages.
@@ -32,8 +34,13 @@ _CACHE, _PAGES = 65_536, 4_096
 
 
 def _registration(row: tuple[Any, ...]) -> Registration:
-    place, string, key, owner, refused, parked, ended = row
-    return Registration(place, string.decode(), key.decode(), owner, refused, bool(parked), ended)
+    place, string, key, owner, refused, parked, ended, caseless = row
+    return Registration(place, string.decode(), key.decode(), owner, refused, bool(parked), ended, None if caseless is None else caseless.decode())
+
+
+def _bytes(caseless: Optional[str]) -> Optional[bytes]:
+    """A caseless key as it stands in a row, where there is one."""
+    return None if caseless is None else caseless.encode()
 
 
 class Store:
@@ -70,8 +77,8 @@ class Store:
                 raise StoreError(f"{self.path}: its layout is an earlier one; `npss-registry status` brings it to the present one")
             with self.transaction():
                 raise_layout(self._base, file)
-        row = self._base.execute("SELECT form, room, shards, equivalents, name, log, node, openings, moving, most_bytes FROM setup").fetchone()
-        self.setup = Setup(form_of(row[0]), row[1], row[2], bool(row[3]), row[4], most_bytes=row[9])
+        row = self._base.execute("SELECT form, room, shards, equivalents, name, log, node, openings, moving, most_bytes, caseless FROM setup").fetchone()
+        self.setup = Setup(form_of(row[0]), row[1], row[2], bool(row[3]), row[4], most_bytes=row[9], caseless=bool(row[10]))
         # The log as it was named, and the one to which `relog` brings the store.
         self.named_log, self.node, self._openings, self.moving = row[5:9]
         if not read_only:
@@ -199,16 +206,18 @@ class Store:
 
     def versions(self) -> list[Version]:
         """The chain of versions, the earliest first. The last is in use."""
-        rows = self._base.execute("SELECT data, exclusions FROM version ORDER BY number").fetchall()
+        rows = self._base.execute("SELECT data, exclusions, folding FROM version ORDER BY number").fetchall()
+        if any((folding is None) is self.setup.caseless for _, _, folding in rows):
+            raise StoreError(f"{self.path}: the store is damaged: a version has {'no' if self.setup.caseless else 'a'} CaseFolding.txt")
         try:
-            return [Version(zlib.decompress(data), zlib.decompress(exclusions)) for data, exclusions in rows]
+            return [Version(zlib.decompress(data), zlib.decompress(exclusions), folding and zlib.decompress(folding)) for data, exclusions, folding in rows]
         except zlib.error as error:
             raise StoreError(f"{self.path}: the files of a version are damaged: {error}") from error
 
-    def version_sums(self) -> list[tuple[tuple[bytes, bytes], int]]:
+    def version_sums(self) -> list[tuple[Sums, int]]:
         """What the store tells of each version: the sums of its files, and how many code points it assigns."""
-        rows = self._base.execute("SELECT data_sum, exclusions_sum, assigned FROM version ORDER BY number")
-        return [((data, exclusions), assigned) for data, exclusions, assigned in rows]
+        rows = self._base.execute("SELECT data_sum, exclusions_sum, folding_sum, assigned FROM version ORDER BY number")
+        return [((data, exclusions, folding), assigned) for data, exclusions, folding, assigned in rows]
 
     @property
     def served(self) -> int:
@@ -290,8 +299,8 @@ class Store:
                                ((shard, one.place, one.string.encode(), one.key.encode(), one.owner) for shard, one in lost))
 
     def lost(self) -> list[Registration]:
-        """What the store had registered and the log to which it went over last has not, at its old places."""
-        return list(self._some("SELECT place, string, key, owner, NULL, 0, NULL FROM lost ORDER BY shard, place"))
+        """What the store had registered and the log to which it went over last has not, at its old places, without caseless keys."""
+        return list(self._some("SELECT place, string, key, owner, NULL, 0, NULL, NULL FROM lost ORDER BY shard, place"))
 
     def move(self, log: str, setup: Setup, empty: bytes) -> None:
         """Begins anew over another log: nothing is registered, and nothing was read. `empty` is an empty node's image."""
@@ -307,17 +316,22 @@ class Store:
 
     # ---- registrations
 
-    def holder(self, number: int, string: str, key: str) -> Optional[Registration]:
-        """The registration of a string with its key, while it lasts."""
-        return self._one(f"{_BY_KEY} AND string = ?", number, key.encode(), string.encode())
+    @property
+    def _by_unique(self) -> str:
+        """What looks registrations up by their unique key."""
+        return _BY_CASELESS_KEY if self.setup.caseless else _BY_KEY
 
-    def holder_of_key(self, number: int, key: str) -> Optional[Registration]:
-        """A registration of a key, while it lasts."""
-        return self._one(_BY_KEY, number, key.encode())
+    def holder(self, number: int, string: str, unique: str) -> Optional[Registration]:
+        """The registration of a string with its unique key, while it lasts."""
+        return self._one(f"{self._by_unique} AND string = ?", number, unique.encode(), string.encode())
 
-    def with_key(self, number: int, key: str) -> list[Registration]:
-        """The registrations of a key, while they last, in the order of their places."""
-        return list(self._some(f"{_BY_KEY} ORDER BY place", number, key.encode()))
+    def holder_of_key(self, number: int, unique: str) -> Optional[Registration]:
+        """A registration of a unique key, while it lasts."""
+        return self._one(self._by_unique, number, unique.encode())
+
+    def with_key(self, number: int, unique: str) -> list[Registration]:
+        """The registrations of a unique key, while they last, in the order of their places."""
+        return list(self._some(f"{self._by_unique} ORDER BY place", number, unique.encode()))
 
     def at(self, number: int, place: int) -> Optional[Registration]:
         """The registration that the record at a place made."""
@@ -370,8 +384,9 @@ class Store:
         return int(made), int(ended)
 
     def register(self, number: int, new: Registration) -> None:
-        self._base.execute("INSERT INTO registration VALUES (?, ?, ?, ?, ?, ?, ?, ?)",
-                           (number, new.place, new.string.encode(), new.key.encode(), new.owner, new.refused, int(new.parked), new.ended))
+        self._base.execute("INSERT INTO registration VALUES (?, ?, ?, ?, ?, ?, ?, ?, ?)",
+                           (number, new.place, new.string.encode(), new.key.encode(), new.owner, new.refused, int(new.parked), new.ended,
+                            _bytes(new.caseless)))
 
     def end(self, number: int, place: int, ended: int) -> None:
         """The registration of a place ends at another."""

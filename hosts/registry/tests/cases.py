@@ -18,12 +18,22 @@ from npss_registry.records import Setup
 
 PROGRAM, FIXTURES = sys.argv[1], Path(sys.argv[2])
 OLD, NEW = ([str(FIXTURES / version / name) for name in ("UnicodeData.txt", "CompositionExclusions.txt")] for version in ("v1", "v2"))
-# Assigned in v2 alone.
-YOUNG = "\u1dfa"
+# The same with their folding files.
+FOLDED_OLD, FOLDED_NEW = ([*files, str(FIXTURES / "caseless" / version / "CaseFolding.txt")] for version, files in (("v1", OLD), ("v2", NEW)))
+# Assigned in v2 alone; the second one folds to a.
+YOUNG, YOUNG_A = "\u1dfa", "\U00016d63"
 
 
-# Makes a store of the second layout of the present one, and of the first one of that.
-SECOND_LAYOUT = """
+# Makes a store of the third layout of the present one, of the second of that, and of the first.
+THIRD_LAYOUT = """
+DROP INDEX registered_caseless;
+ALTER TABLE registration DROP COLUMN caseless;
+ALTER TABLE version DROP COLUMN folding;
+ALTER TABLE version DROP COLUMN folding_sum;
+ALTER TABLE setup DROP COLUMN caseless;
+UPDATE setup SET layout = 3;
+"""
+SECOND_LAYOUT = THIRD_LAYOUT + """
 ALTER TABLE shard DROP COLUMN sum;
 ALTER TABLE shard DROP COLUMN image_sum;
 ALTER TABLE shard DROP COLUMN events;

@@ -8,10 +8,14 @@ import threading
 import time
 from pathlib import Path
 
+from cases import FOLDED_NEW, FOLDED_OLD, PROGRAM, YOUNG_A, version
 from log_trims import LogTrims
-from npss_registry import LogAway
+from npss_registry import LogAway, Registry, init
+from npss_registry.judge import Judge
 from npss_registry.logs import open_log, record_at
 from npss_registry.logs.protocol import MOST_READ
+from npss_registry.records import Setup
+from npss_registry.trim import trim
 
 WRITERS, BATCHES = 4, 25
 # So many seconds a log may take until it says that it is away, where it answers within one by itself.
@@ -196,6 +200,34 @@ class EveryLog(LogTrims):
         found = [body for _, body in direct.read(0, 0, 100)][1:]
         self.assertEqual([body for body in found if found.count(body) > 1], [])
         self.assertEqual([body for body in found if body in bodies[::2]], bodies[::2])
+
+    def test_a_caseless_registry(self):
+        """Two machines, one of which lags behind: their names, behind a trim too."""
+        setup, paths = Setup("nfkc", 100, 2, False, caseless=True), []
+        for files in (FOLDED_OLD, FOLDED_NEW):
+            paths.append(f"{tempfile.mkdtemp(dir=self.folder)}/store")
+            init(paths[-1], version(files), setup, self.log)
+        old, new = map(self.node, paths)
+        self.assertEqual([new.claim(name, "x").what for name in (YOUNG_A, "\u212b", "f")], ["registered"] * 3)
+        self.assertEqual([old.claim(name, "y").what for name in ("A", "a\u030a", "i", "aa")], ["taken", "taken", "taken", "registered"])
+        self.assertEqual([row.string for shard in old.status() for row in shard.parked], [YOUNG_A])
+        new.catch_up()
+        for node in (old, new):
+            node.close()
+        self.assertEqual(trim(paths, PROGRAM).findings, [])
+        third = f"{tempfile.mkdtemp(dir=self.folder)}/store"
+        init(third, version(FOLDED_NEW), None, self.log)
+        node = self.node(third)
+        self.assertEqual([node.claim(name, "z").holder.string for name in ("A", "A\u030a", "f", "AA", "i")], [YOUNG_A, "\u212b", "f", "aa", "f"])
+        node.close()
+        judge = Judge([*paths, third], PROGRAM)
+        self.addCleanup(judge.close)
+        self.assertEqual(judge.run(), [])
+
+    def node(self, path):
+        made = Registry(path)
+        self.addCleanup(made.abandon)
+        return made
 
     def test_a_full_log_takes_nothing_and_is_read(self):
         log = self.opened()

@@ -25,7 +25,8 @@ class Page(Case):
         commands = self.folder / "bin"
         commands.mkdir()
         self.put(commands / "npss-registry", sys.executable, "-m", "npss_registry")
-        self.put(commands / "npss", Path(PROGRAM).resolve())
+        for name in ("npss", "npss_lines", "npss_caseless"):
+            self.put(commands / name, Path(PROGRAM).with_name(name).resolve())
         self.environment = {**os.environ, "PATH": f"{commands}:{os.environ['PATH']}", "LC_ALL": "C.UTF-8"}
 
     @staticmethod

@@ -330,7 +330,7 @@ class Pages(ServingCase):
 
     def test_parked_names_have_their_code_points(self):
         shards = [ShardState(0, 3, 3, 0, 1, 1)]
-        told = pages.home(Overview("ab", "nfkc", 65536, 1024, 5, 1, True, None, None, 2.0, shards, [(0, "A\u0639\U00016d67")]))
+        told = pages.home(Overview("ab", "nfkc", False, 65536, 1024, 5, 1, True, None, None, 2.0, shards, [(0, "A\u0639\U00016d67")]))
         self.assertIn('<td><bdi>A\u0639\U00016d67</bdi></td><td><span class="code">0041 0639 16D67</span></td>', told)
         self.assertIn("The log told its last places 2 s ago", told)
 

@@ -7,6 +7,8 @@ A NAME is that of a class of tests, or CLASS.TEST; all are run where none is nam
 import sys
 import unittest
 
+from caseless_judging import CaselessJudging, CaselessServing, CaselessTrims  # noqa: F401
+from caseless_names import Caseless, CaselessLogs, CaselessStores, CaselessVersions  # noqa: F401
 from healths import Healths  # noqa: F401
 from judging import Judging  # noqa: F401
 from log_kinds import EtcdKind, PostgresKind, RedisKind, SqliteKind  # noqa: F401
