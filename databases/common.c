@@ -82,7 +82,7 @@ uint8_t form_named(const char *word, size_t length) {
 
 /* ---- refusals */
 
-/* A name that the library tells; a library that is newer than these may answer a number that it has none for. */
+/* A name that the library tells, and a word in place of an empty one. */
 static npss_name known(npss_name name) {
     static const npss_name unknown = {"unknown"};
     return name.text[0] != '\0' ? name : unknown;
