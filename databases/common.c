@@ -88,7 +88,7 @@ static npss_name known(npss_name name) {
     return name.text[0] != '\0' ? name : unknown;
 }
 
-npss_name break_name(npss_answer answer) {
+npss_name break_kind(npss_answer answer) {
     return known(npss_break_name(answer.fault));
 }
 

@@ -62,7 +62,7 @@ npss_pg_audit(PG_FUNCTION_ARGS)
 	shut_version(then);
 	if (answer.status == NPSS_DONE)
 		PG_RETURN_TEXT_P(cstring_to_text("extends"));
-	PG_RETURN_TEXT_P(cstring_to_text(psprintf("%s %04X", break_name(answer).text, answer.code)));
+	PG_RETURN_TEXT_P(cstring_to_text(psprintf("%s %04X", break_kind(answer).text, answer.code)));
 }
 
 /* Whether a version can be raised to, or is recorded, on this very server: its files are here, whole and right. */

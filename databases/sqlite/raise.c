@@ -25,7 +25,7 @@ void do_audit(sqlite3_context *call, int count, sqlite3_value **given) {
         if (a.status == NPSS_DONE) {
             sqlite3_result_text(call, "extends", -1, SQLITE_STATIC);
         } else {
-            char *told = sqlite3_mprintf("%s %04X", break_name(a).text, a.code);
+            char *told = sqlite3_mprintf("%s %04X", break_kind(a).text, a.code);
             if (told) sqlite3_result_text(call, told, -1, sqlite3_free);
             else fail_memory(call);
         }
@@ -38,7 +38,7 @@ void do_audit(sqlite3_context *call, int count, sqlite3_value **given) {
 static int extends(sqlite3_context *call, npss_handle *older, npss_handle *newer) {
     npss_answer a = npss_extends(older, newer);
     if (a.status == NPSS_DONE) return 1;
-    return fail(call, sqlite3_mprintf("npss: the files do not extend this database's version: %s %04X", break_name(a).text, a.code));
+    return fail(call, sqlite3_mprintf("npss: the files do not extend this database's version: %s %04X", break_kind(a).text, a.code));
 }
 
 /* npss_open(FOLDER): tables of this connection alone, while the database has no record: where a dump comes back. */
