@@ -104,7 +104,7 @@ static const char *file_numbered(uint32_t number) {
     return number - 1 < FILE_COUNT ? file_names[number - 1] : "unknown";
 }
 
-npss_name break_name(npss_answer answer) {
+npss_name break_kind(npss_answer answer) {
     return known(npss_break_name(answer.fault));
 }
 

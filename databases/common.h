@@ -56,7 +56,7 @@ bool keeps_ascii(npss_handle *handle);
 uint8_t form_named(const char *word, size_t length);
 
 /* The name of what a newer version breaks, as an answer of npss_extends or npss_caseless_extends tells it. */
-npss_name break_name(npss_answer answer);
+npss_name break_kind(npss_answer answer);
 
 /* Puts into a room of FAULT_SIZE bytes why files make no version, by an answer of open_files that isn't done. */
 void put_fault(char *room, npss_answer answer);

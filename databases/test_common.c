@@ -19,7 +19,7 @@ int main(int count, char **words) {
     uint8_t room[11];
     for (uint32_t i = 0; i < 16 + sizeof more / sizeof *more; i++) {
         uint32_t number = i < 16 ? i : more[i - 16];
-        printf("break %u\t%s\n", (unsigned)number, break_name((npss_answer){.status = NPSS_DIFFERENT, .fault = number}).text);
+        printf("break %u\t%s\n", (unsigned)number, break_kind((npss_answer){.status = NPSS_DIFFERENT, .fault = number}).text);
         fault("data", (npss_answer){.status = NPSS_DATA, .fault = number, .place = UINT64_MAX});
         fault("exclusions", (npss_answer){.status = NPSS_EXCLUSIONS, .fault = number, .place = 7});
         fault("tables", (npss_answer){.status = NPSS_TABLES, .fault = number, .code = 0x10FFFF});

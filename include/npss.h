@@ -416,8 +416,8 @@ npss_answer npss_stream_finish(npss_stream *stream);
 /* Closes the stream. A closed one stays closed. */
 void npss_stream_close(npss_stream *stream);
 
-/* The names of the numbers above, as the programs print them: ASCII that ends in NUL. A number without a name, as one that a
- * later version of the library answers, has an empty one.
+/* The names of the numbers above, as the programs print them: ASCII that ends in NUL. A number that the library doesn't answer
+ * has an empty one. A library that is later than this header names what it has more.
  *
  *     printf("%s %s\n", npss_status_name(a.status).text, npss_fault_name(a.status, a.fault).text);
  *

@@ -49,7 +49,7 @@ found(npss_answer answer)
 		return cstring_to_text("extends");
 	if (answer.status == NPSS_NO_FOLDING)
 		return cstring_to_text(psprintf("no %s", file_names[FOLDING_FILE]));
-	return cstring_to_text(psprintf("%s %04X", break_name(answer).text, answer.code));
+	return cstring_to_text(psprintf("%s %04X", break_kind(answer).text, answer.code));
 }
 
 /*

@@ -79,7 +79,7 @@ check_row(Version *fresh, const Row *force, bool is_restored)
 				(errcode(ERRCODE_OBJECT_NOT_IN_PREREQUISITE_STATE),
 				 errmsg("Unicode version \"%s\" does not extend \"%s\"",
 						(is_newer ? fresh : held)->label, (is_newer ? held : fresh)->label),
-				 errdetail("First break: %s %04X.", break_name(answer).text, answer.code),
+				 errdetail("First break: %s %04X.", break_kind(answer).text, answer.code),
 				 errhint("Keys that are stored could change.  Keep the version in use.")));
 	if (is_newer)
 		return;

@@ -17,7 +17,7 @@ void do_version(sqlite3_context *call, int count, sqlite3_value **given) {
 /* What newer files break first, of sqlite3_mprintf. */
 static char *told_break(npss_answer a) {
     if (a.status == NPSS_NO_FOLDING) return sqlite3_mprintf("no %s", file_names[FOLDING_FILE]);
-    return sqlite3_mprintf("%s %04X", break_name(a).text, a.code);
+    return sqlite3_mprintf("%s %04X", break_kind(a).text, a.code);
 }
 
 /* npss_audit(FOLDER): `extends`, or what the files would break first, or that they lack the foldings that there are. Changes
@@ -47,7 +47,7 @@ static int extends(sqlite3_context *call, npss_handle *older, npss_handle *newer
     if (a.status == NPSS_DONE) return 1;
     if (a.status == NPSS_NO_FOLDING)
         return fail(call, sqlite3_mprintf("npss: the files have no %s, which this database's version has", file_names[FOLDING_FILE]));
-    return fail(call, sqlite3_mprintf("npss: the files do not extend this database's version: %s %04X", break_name(a).text, a.code));
+    return fail(call, sqlite3_mprintf("npss: the files do not extend this database's version: %s %04X", break_kind(a).text, a.code));
 }
 
 /* npss_open(FOLDER): tables of this connection alone, while the database has no record: where a dump comes back. */

@@ -4,7 +4,7 @@ use crate::raw;
 use std::fmt;
 use std::ops::Deref;
 
-/// The name of a fault, as the programs print it. It reads as a `str`, and is empty where the library knows of none.
+/// The name of a fault, as the programs print it. It reads as a `str`.
 ///
 /// ```
 /// use npss::{OpenError, Tables};
