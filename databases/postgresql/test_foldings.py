@@ -149,7 +149,7 @@ class Foldings(Apart):
         # No version is audited against foldings that aren't here.
         copied(self.versions, {"next": CASED / "15.0"})
         self.addCleanup(shutil.rmtree, self.versions / "next")
-        self.refused("55000", "SELECT npss_raise('next')", base)
+        self.assertIn("is not the one that was recorded, or is not here", self.refused("55000", "SELECT npss_raise('next')", base))
 
     def test_foldings_that_nobody_recorded_are_not_looked_at(self):
         base = self.base("unseen", "15.0")

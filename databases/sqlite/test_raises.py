@@ -142,7 +142,7 @@ class Raises(Case):
 
     def test_the_record_is_written_by_raises_alone(self):
         base = self.with_names()
-        for text in ("UPDATE npss_record SET data = x''", "DELETE FROM npss_record", "REPLACE INTO npss_record VALUES (1, 2, x'', x'')"):
+        for text in ("UPDATE npss_record SET data = x''", "DELETE FROM npss_record", "REPLACE INTO npss_record VALUES (1, 2, x'', x'', x'')"):
             self.refused("npss_raise alone", base, text)
 
     def test_no_trigger_writes_beside_a_raise(self):
