@@ -35,13 +35,12 @@ def built_program(name="npss"):
 
 def programs_in(folder, program):
     """A program npss that has npss_lines and npss_caseless beside it, as an installation has: in this tree, where they stand apart, by links in a folder."""
-    program = Path(program).resolve()
+    program = Path(program).absolute()
     others = ("npss_lines", "npss_caseless")
     if all(program.with_name(name).exists() for name in others):
         return program
     for name in others:
-        built = ROOT / "crates" / name / "out" / name
-        (folder / name).symlink_to(built if built.exists() else built_program(name) or built)
+        (folder / name).symlink_to(ROOT / "crates" / name / "out" / name)
     (folder / "npss").symlink_to(program)
     return folder / "npss"
 

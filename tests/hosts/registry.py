@@ -67,7 +67,7 @@ def main():
     parser.add_argument("--seconds", type=float, default=20)
     words = parser.parse_args()
     # Its tests have folders of their own.
-    words.program = words.program.resolve()
+    words.program = words.program.absolute()
     tally = Tally()
     if not (words.prefix / "lib" / "libnpss.a").exists() or not shutil.which("cc"):
         print("skipped: the registry: the library for C isn't built, or there is no C compiler")
