@@ -8,6 +8,7 @@ none is named. On demand: not called by ./test; a quarter of an hour. Ends in a 
 
 import argparse
 import random
+import subprocess
 import sys
 import tempfile
 import time
@@ -72,15 +73,25 @@ PLANTS = {
 }
 
 
-def is_found(tally, name, folder, plant, chosen):
+def objects(prefix, folder, name):
+    """The objects of a program, which are the same whatever is planted."""
+    made = []
+    for source in fuzz.sources(name):
+        made.append(folder / f"{name}-{source.stem}.o")
+        subprocess.run(list(map(str, [*fuzz.compiler(prefix, name), "-c", source, "-o", made[-1]])), check=True)
+    return made
+
+
+def is_found(tally, name, parts, plant, chosen):
     """Whether a fuzzer, or the reader beside the openings, finds the bug in time."""
-    more = [fuzz.HERE / "planted.cc", f"-DPLANT={plant.number}", f"-Wl,--wrap={plant.call}"]
-    program = fuzz.built(tally, name, fuzz.compiled(chosen.prefix, folder, name, more))
+    words = [*parts, fuzz.HERE / "planted.cc", f"-DPLANT={plant.number}", f"-Wl,--wrap={plant.call}"]
+    program = fuzz.built(tally, name, fuzz.compiled(chosen.prefix, parts[0].parent, name, words))
     if program is None:
         return False
     if name == "folding_answers":
         return fuzz.judged.judge_until(program, ucd.package_files()[0], chosen.seconds, chosen.seed)[1] is not None
-    done = fuzz.ran(fuzz.words_of(name, program, folder, chosen), chosen)
+    with tempfile.TemporaryDirectory() as room:
+        done = fuzz.ran(fuzz.words_of(name, program, Path(room), chosen), chosen)
     return done is not None and done.returncode not in (0, NO_FILES)
 
 
@@ -96,11 +107,12 @@ def main():
         sys.exit(f"tests/on_demand/fuzz_plants.py: {why}")
     chosen.prefix = chosen.prefix.resolve()
     print(f"seed {chosen.seed}", flush=True)
-    for bug, plant in PLANTS.items():
-        for name in plant.finders if any(some in bug for some in chosen.only) else ():
-            with tempfile.TemporaryDirectory() as folder:
+    with tempfile.TemporaryDirectory() as folder:
+        parts = {name: objects(chosen.prefix, Path(folder), name) for name in fuzz.SOURCES}
+        for bug, plant in PLANTS.items():
+            for name in plant.finders if any(some in bug for some in chosen.only) else ():
                 begun = time.monotonic()
-                found = is_found(tally, name, Path(folder), plant, chosen)
+                found = is_found(tally, name, parts[name], plant, chosen)
                 tally.check(f"{bug}: {name}", found, f"survived, seed {chosen.seed}")
                 print(f"{bug}: {name}: {'found' if found else 'survived'} after {time.monotonic() - begun:.0f} seconds", flush=True)
     tally.finish()
