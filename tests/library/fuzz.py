@@ -73,14 +73,24 @@ def reason():
     return why if files is None else None if ucd.FOLDING in files else f"the package unicode-data has no {ucd.FOLDING}"
 
 
-def compiled(prefix, folder, name, more=()):
-    """A fuzzer, or another program that stands beside them, with more words for the compiler; and why it isn't there."""
-    program = folder / name
-    sources = [HERE / f"{source}.cc" for source in SOURCES[name]]
+def compiler(prefix, name):
+    """The compiler with its flags, for the sources of a program."""
     checks = "address,undefined" if name in PLAIN else "fuzzer,address,undefined"
-    icu = subprocess.run(["pkg-config", "--cflags", "--libs", "icu-uc"], check=True, capture_output=True, text=True).stdout.split()
-    words = ["clang++", "-std=c++17", "-O1", "-g", "-Wall", "-Wextra", "-Werror", f"-fsanitize={checks}", "-fno-sanitize-recover=undefined",
-             f"-I{prefix}/include", *sources, *more, prefix / "lib" / "libnpss.a", "-o", program, *icu]
+    flags = subprocess.run(["pkg-config", "--cflags", "icu-uc"], check=True, capture_output=True, text=True).stdout.split()
+    return ["clang++", "-std=c++17", "-O1", "-g", "-Wall", "-Wextra", "-Werror", f"-fsanitize={checks}", "-fno-sanitize-recover=undefined",
+            f"-I{prefix}/include", *flags]
+
+
+def sources(name):
+    """The sources of a program."""
+    return [HERE / f"{source}.cc" for source in SOURCES[name]]
+
+
+def compiled(prefix, folder, name, parts):
+    """A fuzzer, or another program that stands beside them, of sources, objects and other words; and why it isn't there."""
+    program = folder / name
+    icu = subprocess.run(["pkg-config", "--libs", "icu-uc"], check=True, capture_output=True, text=True).stdout.split()
+    words = [*compiler(prefix, name), *parts, prefix / "lib" / "libnpss.a", "-o", program, *icu]
     made = subprocess.run(list(map(str, words)), capture_output=True, text=True, check=False)
     return program, made.returncode and (made.stderr[-2000:] or f"status {made.returncode}")
 
@@ -165,7 +175,7 @@ def main():
     with tempfile.TemporaryDirectory() as room, ThreadPoolExecutor() as pool:
         folder = Path(room)
         prefix = instrumented.library_below(folder) if chosen.instrumented else chosen.prefix.resolve()
-        made = {name: pool.submit(compiled, prefix, folder, name) for name in SOURCES}
+        made = {name: pool.submit(compiled, prefix, folder, name, sources(name)) for name in SOURCES}
         answers = built(tally, "folding_answers", made["folding_answers"].result())
         told = answers and pool.submit(judged.judge_until, answers, ucd.package_files()[0], chosen.seconds, chosen.seed)
         for name in LEAST:

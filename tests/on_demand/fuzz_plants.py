@@ -7,6 +7,7 @@ none is named. On demand: not called by ./test; a quarter of an hour. Ends in a 
 """
 
 import argparse
+import os
 import random
 import sys
 import tempfile
@@ -23,65 +24,76 @@ import ucd
 SHARED = ("calls", "texts")
 # The status of a fuzzer that lacks its files.
 NO_FILES = 9
-KEY, MATCH, ANSWERS, FOLDING, EXTENDS, OPEN = (
-    f"npss_{call}" for call in ("caseless_key", "caseless_match", "caseless_answers", "folding", "caseless_extends", "open_caseless"))
+CALLS = ("caseless_key", "caseless_match", "caseless_answers", "folding", "caseless_extends", "open_caseless")
 
 
 class Plant(NamedTuple):
-    """A bug by its number in planted.cc, the call before which it stands, and the programs that have to find it."""
+    """A bug by its number in planted.cc, and the programs that have to find it."""
 
     number: int
-    call: str
     finders: tuple
 
 
 PLANTS = {
-    "a caseless key loses its last byte": Plant(1, KEY, (*SHARED, "opening", "folding_answers")),
-    "a refused room isn't told how much is needed": Plant(2, KEY, SHARED),
-    "a byte is written behind a caseless key": Plant(3, KEY, SHARED),
-    "a byte is written where there is no room": Plant(4, KEY, SHARED),
-    "an unassigned code point is told at the next byte": Plant(5, KEY, SHARED),
-    "a caseless key is a key": Plant(6, KEY, (*SHARED, "opening", "folding_answers")),
-    "a text is folded before it is decomposed": Plant(20, KEY, (*SHARED, "opening")),
-    "a compatible key is folded once": Plant(21, KEY, (*SHARED, "opening")),
-    "a match compares forms only": Plant(30, MATCH, (*SHARED, "opening")),
-    "each match is compatible": Plant(31, MATCH, SHARED),
-    "the first of two texts is blamed": Plant(32, MATCH, SHARED),
-    "a match tells what it has no use for": Plant(33, MATCH, SHARED),
-    "answers to lines have plain keys": Plant(40, ANSWERS, SHARED),
-    "a refused line isn't told": Plant(41, ANSWERS, SHARED),
-    "a byte that ends no lines is told before the folding that isn't there": Plant(42, ANSWERS, SHARED),
-    "an unassigned code point isn't named": Plant(50, FOLDING, SHARED),
-    "110000 is a code point": Plant(51, FOLDING, ("calls",)),
-    "a folding is cut": Plant(52, FOLDING, SHARED),
-    "an audit passes over foldings": Plant(60, EXTENDS, ("calls",)),
-    "an audit looks the other way": Plant(61, EXTENDS, ("calls",)),
-    "of two handles the first one is blamed": Plant(62, EXTENDS, SHARED),
-    "a mark isn't folded": Plant(70, OPEN, SHARED),
-    "a byte order mark is passed over": Plant(71, OPEN, ("folding_answers",)),
-    "tabs are no blanks": Plant(72, OPEN, ("folding_answers",)),
-    "the last line is lost": Plant(73, OPEN, ("folding_answers",)),
-    "simple foldings are full ones": Plant(74, OPEN, ("calls", "folding_answers")),
-    "an opening tells another file": Plant(75, OPEN, ("calls", "opening", "folding_answers")),
-    "an opening tells another line": Plant(76, OPEN, ("folding_answers",)),
-    "another condition is told": Plant(77, OPEN, ("opening", "folding_answers")),
-    "a refused opening closes its handle": Plant(78, OPEN, ("calls", "opening")),
-    "the tables are told otherwise": Plant(79, OPEN, ("opening",)),
-    "a folding of another version is let in": Plant(80, OPEN, ("opening", "folding_answers")),
-    "a condition tells what it has no use for": Plant(81, OPEN, ("opening", "folding_answers")),
+    "a caseless key loses its last byte": Plant(1, (*SHARED, "opening", "folding_answers")),
+    "a refused room isn't told how much is needed": Plant(2, SHARED),
+    "a byte is written behind a caseless key": Plant(3, SHARED),
+    "a byte is written where there is no room": Plant(4, SHARED),
+    "an unassigned code point is told at the next byte": Plant(5, SHARED),
+    "a caseless key is a key": Plant(6, (*SHARED, "opening", "folding_answers")),
+    "a text is folded before it is decomposed": Plant(7, (*SHARED, "opening")),
+    "a compatible key is folded once": Plant(8, (*SHARED, "opening")),
+    "a match compares forms only": Plant(30, (*SHARED, "opening")),
+    "each match is compatible": Plant(31, SHARED),
+    "the first of two texts is blamed": Plant(32, SHARED),
+    "a match tells what it has no use for": Plant(33, SHARED),
+    "answers to lines have plain keys": Plant(40, SHARED),
+    "a refused line isn't told": Plant(41, SHARED),
+    "a byte that ends no lines is told before the folding that isn't there": Plant(42, SHARED),
+    "an unassigned code point isn't named": Plant(50, SHARED),
+    "110000 is a code point": Plant(51, ("calls",)),
+    "a folding is cut": Plant(52, SHARED),
+    "an audit passes over foldings": Plant(60, ("calls",)),
+    "an audit looks the other way": Plant(61, ("calls",)),
+    "of two handles the first one is blamed": Plant(62, SHARED),
+    "a mark isn't folded": Plant(70, SHARED),
+    "a byte order mark is passed over": Plant(71, ("folding_answers",)),
+    "tabs are no blanks": Plant(72, ("folding_answers",)),
+    "the last line is lost": Plant(73, ("folding_answers",)),
+    "simple foldings are full ones": Plant(74, ("folding_answers",)),
+    "an opening tells another file": Plant(75, ("calls", "opening", "folding_answers")),
+    "an opening tells another line": Plant(76, ("folding_answers",)),
+    "another condition is told": Plant(77, ("opening", "folding_answers")),
+    "a refused opening closes its handle": Plant(78, ("calls", "opening")),
+    "the tables are told otherwise": Plant(79, ("opening",)),
+    "a folding of another version is let in": Plant(80, ("opening", "folding_answers")),
+    "a condition tells what it has no use for": Plant(81, ("opening", "folding_answers")),
 }
 
 
-def is_found(tally, name, folder, plant, chosen):
+def planted(tally, prefix, folder, name):
+    """A program with all bugs in it, of which it is told one when it runs; None where it isn't built."""
+    parts = [*fuzz.sources(name), fuzz.HERE / "planted.cc", *(f"-Wl,--wrap=npss_{call}" for call in CALLS)]
+    return fuzz.built(tally, name, fuzz.compiled(prefix, folder, name, parts))
+
+
+def is_found(name, program, chosen):
     """Whether a fuzzer, or the reader beside the openings, finds the bug in time."""
-    more = [fuzz.HERE / "planted.cc", f"-DPLANT={plant.number}", f"-Wl,--wrap={plant.call}"]
-    program = fuzz.built(tally, name, fuzz.compiled(chosen.prefix, folder, name, more))
-    if program is None:
-        return False
     if name == "folding_answers":
         return fuzz.judged.judge_until(program, ucd.package_files()[0], chosen.seconds, chosen.seed)[1] is not None
-    done = fuzz.ran(fuzz.words_of(name, program, folder, chosen), chosen)
+    with tempfile.TemporaryDirectory() as room:
+        done = fuzz.ran(fuzz.words_of(name, program, Path(room), chosen), chosen)
     return done is not None and done.returncode not in (0, NO_FILES)
+
+
+def check_plant(tally, bug, programs, chosen):
+    """Each program that is meant to finds the bug."""
+    os.environ["PLANT"] = str(PLANTS[bug].number)
+    for name in PLANTS[bug].finders:
+        begun = time.monotonic()
+        found = programs[name] is not None and is_found(name, programs[name], chosen)
+        tally.check(f"{bug}: {name}", found, f"survived, seed {chosen.seed}")
+        print(f"{bug}: {name}: {'found' if found else 'survived'} after {time.monotonic() - begun:.1f} seconds", flush=True)
 
 
 def main():
@@ -96,13 +108,12 @@ def main():
         sys.exit(f"tests/on_demand/fuzz_plants.py: {why}")
     chosen.prefix = chosen.prefix.resolve()
     print(f"seed {chosen.seed}", flush=True)
-    for bug, plant in PLANTS.items():
-        for name in plant.finders if any(some in bug for some in chosen.only) else ():
-            with tempfile.TemporaryDirectory() as folder:
-                begun = time.monotonic()
-                found = is_found(tally, name, Path(folder), plant, chosen)
-                tally.check(f"{bug}: {name}", found, f"survived, seed {chosen.seed}")
-                print(f"{bug}: {name}: {'found' if found else 'survived'} after {time.monotonic() - begun:.0f} seconds", flush=True)
+    fuzz.FOUND.mkdir(parents=True, exist_ok=True)
+    with tempfile.TemporaryDirectory() as folder:
+        programs = {name: planted(tally, chosen.prefix, Path(folder), name) for name in fuzz.SOURCES}
+        for bug in PLANTS:
+            if any(some in bug for some in chosen.only):
+                check_plant(tally, bug, programs, chosen)
     tally.finish()
 
 
