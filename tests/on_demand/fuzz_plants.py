@@ -108,8 +108,9 @@ def main():
         sys.exit(f"tests/on_demand/fuzz_plants.py: {why}")
     chosen.prefix = chosen.prefix.resolve()
     print(f"seed {chosen.seed}", flush=True)
-    fuzz.FOUND.mkdir(parents=True, exist_ok=True)
     with tempfile.TemporaryDirectory() as folder:
+        # What finds a bug that was planted is nothing to keep.
+        fuzz.FOUND = Path(folder)
         programs = {name: planted(tally, chosen.prefix, Path(folder), name) for name in fuzz.SOURCES}
         for bug in PLANTS:
             if any(some in bug for some in chosen.only):
