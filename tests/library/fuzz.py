@@ -110,8 +110,8 @@ def seeds(folder):
         two = b"\xff".join((ROOT / "fixtures" / name).read_bytes() for name in version)
         (at / str(number)).write_bytes(two)
         (at / f"caseless-{number}").write_bytes(two + b"\xff" + (foldings / f"v{number}" / ucd.FOLDING).read_bytes())
-    for edge in (foldings / "edges").glob("[0-9]*.txt"):
-        (at / edge.stem).write_bytes((at / "1").read_bytes() + b"\xff" + edge.read_bytes())
+    for name, data in judged.edges():
+        (at / name).write_bytes(b"\xff".join(path.read_bytes() for path in (data, ROOT / "fixtures" / versions.V1[1], foldings / "edges" / name)))
     for number, edit in enumerate(([1, 0, 0, 40, 0, 0, 65], [1, 2, 0, 40, 0, 12, 2], *([2, 2, 0, 60, 0, how, 33] for how in range(16)))):
         (at / f"edit-{number}").write_bytes(bytes(edit))
     return at

@@ -1,9 +1,9 @@
 #!/usr/bin/env python3
-"""tests/on_demand/fuzz_plants.py [--only WORDS..] [--seconds N] [--seed S] [PREFIX]: plants bugs that the fuzzers of tests/library/fuzz have to find.
+"""tests/on_demand/fuzz_plants.py [--only WORDS..] [--seconds N] [--seed S] [--prefix PREFIX]: plants bugs that tests/library/fuzz.py has to find.
 
 Each bug stands before a call of the library for C (tests/library/fuzz/planted.cc). Each fuzzer that is meant to find it has N seconds for
 that (default 20). WORDS choose the bugs whose names have them. PREFIX is where ./build-c installed the library, that of this tree where
-none is named. On demand: not called by ./test; a quarter of an hour. Ends in a line 'N passed, M failed'.
+none is named. On demand: not called by ./test; some five minutes. Ends in a line 'N passed, M failed'.
 """
 
 import argparse
@@ -101,15 +101,16 @@ def main():
     parser.add_argument("--only", default=[""], nargs="+", metavar="WORDS", help="the bugs alone whose names have one of these in them")
     parser.add_argument("--seconds", type=int, default=20, help="how long each fuzzer may take (default 20)")
     parser.add_argument("--seed", type=int, default=random.randrange(1, 1 << 31))
-    parser.add_argument("prefix", type=Path, nargs="?", default=ROOT / "out" / "c", help="where ./build-c installed the library")
+    parser.add_argument("--prefix", type=Path, default=ROOT / "out" / "c", help="where ./build-c installed the library")
     chosen = parser.parse_args()
     tally, why = Tally(), fuzz.reason()
     if why:
         sys.exit(f"tests/on_demand/fuzz_plants.py: {why}")
     chosen.prefix = chosen.prefix.resolve()
     print(f"seed {chosen.seed}", flush=True)
-    fuzz.FOUND.mkdir(parents=True, exist_ok=True)
     with tempfile.TemporaryDirectory() as folder:
+        # What finds a bug that was planted is nothing to keep.
+        fuzz.FOUND = Path(folder)
         programs = {name: planted(tally, chosen.prefix, Path(folder), name) for name in fuzz.SOURCES}
         for bug in PLANTS:
             if any(some in bug for some in chosen.only):

@@ -81,8 +81,10 @@ static void check_code(const Question &asked, uint32_t code) {
                   [&](uint8_t *room, size_t size) { return npss_folding(&caseless_tables, code, room, size); });
 }
 
-/* The code points of a text, and the numbers that its bytes make by fours. */
+/* The code points of a text, or the numbers that its bytes make by fours; and now and then those at the edges. */
 void check_folding(const Question &asked) {
+    if (asked.extra % 16 == 0)
+        for (uint32_t code : {0u, 0xD7FFu, 0xD800u, 0xDFFFu, 0xE000u, 0x10FFFFu, 0x110000u, UINT32_MAX}) check_code(asked, code);
     if (utf8_fault(asked.text).status == NPSS_DONE) {
         const icu::UnicodeString text = icu::UnicodeString::fromUTF8(asked.text);
         for (int32_t at = 0; at < std::min(text.length(), 64); at = text.moveIndex32(at, 1)) check_code(asked, static_cast<uint32_t>(text.char32At(at)));

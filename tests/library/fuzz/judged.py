@@ -16,6 +16,7 @@ from models import folding_judge, judge
 import ucd
 
 FIXTURES = ROOT / "fixtures"
+EDGES = FIXTURES / "caseless" / "edges"
 RECORD_FAULTS = ("", "FieldCount", "BadCode", "BadStatus", "OutOfOrder", "StatusConflict", "BadMapping")
 CONDITION_FAULTS = ("", "FoldsUnassigned", "FoldsToUnassigned", "FoldsAgain", "FoldedTooLong", "NotFolded")
 DONE, FOLDING, FOLDINGS = 0, 24, 25
@@ -46,15 +47,23 @@ def version_of(data, exclusions, foldings):
                    [path.read_bytes() for path in foldings], text)
 
 
+def edges():
+    """The name of each folding file at an edge, and the data file that it stands beside."""
+    for line in (EDGES / "EXPECTED.txt").read_text(encoding="utf-8").splitlines():
+        if not line.startswith("#"):
+            name, data = line.split(" / ")[:2]
+            yield name, FIXTURES / "v1" / ucd.DATA if data == "v1" else EDGES / f"{data}.data"
+
+
 def versions_here(published):
     """The toy versions, with the files at the edges, and the published one behind them."""
-    cases, edges = FIXTURES / "caseless", FIXTURES / "caseless" / "edges"
-    names = [line.split(" / ")[:2] for line in (edges / "EXPECTED.txt").read_text(encoding="utf-8").splitlines() if not line.startswith("#")]
-    beside = {data: [edges / name for name, other in names if other == data] for _, data in names}
     v1, v2 = FIXTURES / "v1", FIXTURES / "v2"
-    both = [cases / name / ucd.FOLDING for name in ("v1", "v2", "changed")]
-    made = [version_of(v1 / ucd.DATA, v1 / ucd.EXCLUSIONS, [*both, *beside.pop("v1")]), version_of(v2 / ucd.DATA, v2 / ucd.EXCLUSIONS, both)]
-    made += [version_of(edges / f"{name}.data", v1 / ucd.EXCLUSIONS, found) for name, found in beside.items()]
+    both = [FIXTURES / "caseless" / name / ucd.FOLDING for name in ("v1", "v2", "changed")]
+    beside = {}
+    for name, data in edges():
+        beside.setdefault(data, []).append(EDGES / name)
+    made = [version_of(v1 / ucd.DATA, v1 / ucd.EXCLUSIONS, [*both, *beside.pop(v1 / ucd.DATA)]), version_of(v2 / ucd.DATA, v2 / ucd.EXCLUSIONS, both)]
+    made += [version_of(data, v1 / ucd.EXCLUSIONS, found) for data, found in beside.items()]
     return [*made, version_of(published[ucd.DATA], published[ucd.EXCLUSIONS], [published[ucd.FOLDING]])]
 
 

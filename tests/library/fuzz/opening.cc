@@ -64,6 +64,27 @@ static Made check_caseless_key(npss_handle *handle, uint8_t form, const std::str
     return key;
 }
 
+/* What the code points of a text fold to, one behind the other; of one that isn't assigned nothing. */
+static std::string foldings_of(npss_handle *handle, const std::string &text) {
+    std::string made;
+    for (int32_t at = 0, length = static_cast<int32_t>(text.size()); at < length;) {
+        UChar32 code;
+        uint8_t part[256];
+        U8_NEXT(text.data(), at, length, code);
+        npss_answer a = npss_folding(handle, static_cast<uint32_t>(code), part, sizeof part);
+        if (a.status == NPSS_DONE) made.append(reinterpret_cast<char *>(part), a.length);
+    }
+    return made;
+}
+
+/* A text and another one match exactly where they have one caseless key, if they have any. */
+static void check_pair(npss_handle *handle, uint8_t form, const std::string &left, const std::string &right) {
+    const Made one = made_by(npss_caseless_key, handle, form, left), other = made_by(npss_caseless_key, handle, form, right);
+    if (one.status != NPSS_DONE || other.status != NPSS_DONE) return;
+    npss_answer a = npss_caseless_match(handle, is_compatible(form), bytes(left), left.size(), bytes(right), right.size());
+    if (!same(a, alone(one.text == other.text ? NPSS_DONE : NPSS_DIFFERENT))) die("a match isn't one caseless key");
+}
+
 /* A version extends itself, and says something of each other one. */
 static void check_version(npss_handle *handle, const std::string &codes) {
     const std::string texts[] = {"a\xcc\x82\xcc\xa3", "\xea\xb0\x80\xe1\x84\x80\xe1\x85\xa1\xe1\x86\xa8", "A\xcc\x8a\xef\xac\x81\xc7\x86",
@@ -100,6 +121,7 @@ static void check_folded(npss_handle *handle, const std::string &codes) {
     for (const std::string &text : texts) {
         for (uint8_t form : forms) {
             const Made key = check_caseless_key(handle, form, text), newer = made_by(npss_caseless_key, &newest_folded, form, text);
+            check_pair(handle, form, text, foldings_of(handle, text));
             if (is_one && key.status == NPSS_DONE && newer.status == NPSS_DONE && key.text != newer.text) die("a caseless key isn't stable");
         }
     }

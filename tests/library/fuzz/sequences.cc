@@ -34,7 +34,21 @@ struct Refusal {
     npss_answer wanted;
 };
 
+/* A handle, and what it is to hold: no version, or one without its foldings or with them. */
+struct Slot {
+    npss_handle handle;
+    int version;
+    bool folds;
+
+    /* Why it can't answer what wants a folding; DONE where it can. */
+    npss_answer able() const {
+        return alone(version < 0 ? NPSS_CLOSED : folds ? NPSS_DONE : NPSS_NO_FOLDING);
+    }
+};
+
 static Version versions[VERSIONS];
+/* Each version with its foldings, opened once. */
+static Slot opened[VERSIONS];
 static npss_answer audits[VERSIONS][VERSIONS];
 static std::vector<KeyRow> keys;
 static std::vector<MatchRow> matches;
@@ -98,6 +112,10 @@ static npss_answer refusal_of(const std::string &line) {
     return {NPSS_FOLDINGS, static_cast<uint32_t>(number), static_cast<uint32_t>(std::stoul(second, nullptr, 16)), 0, 0};
 }
 
+static npss_answer open_with(npss_handle *handle, const std::string &data, const std::string &exclusions, const std::string &folding) {
+    return npss_open_caseless(handle, bytes(data), data.size(), bytes(exclusions), exclusions.size(), bytes(folding), folding.size());
+}
+
 static void read_rows() {
     for (const auto &row : rows_of("caseless/KEYS.txt")) {
         unsigned code, place;
@@ -125,24 +143,12 @@ void read_fixtures() {
     for (size_t number = 0; number < VERSIONS; number++) {
         const std::string name = names[number], base = name == "changed" ? "v2" : name;
         versions[number] = {fixture(base + "/UnicodeData.txt"), fixture(base + "/CompositionExclusions.txt"), fixture("caseless/" + name + "/CaseFolding.txt")};
+        const Version &v = versions[number];
+        if (!same(open_with(&opened[number].handle, v.data, v.exclusions, v.folding), alone(NPSS_DONE))) disagree("an opening of a fixture", name);
+        opened[number].version = static_cast<int>(number);
+        opened[number].folds = true;
     }
     read_rows();
-}
-
-/* A handle, and what it is to hold: no version, or one without its foldings or with them. */
-struct Slot {
-    npss_handle handle;
-    int version;
-    bool folds;
-
-    /* Why it can't answer what wants a folding; DONE where it can. */
-    npss_answer able() const {
-        return alone(version < 0 ? NPSS_CLOSED : folds ? NPSS_DONE : NPSS_NO_FOLDING);
-    }
-};
-
-static npss_answer open_with(npss_handle *handle, const std::string &data, const std::string &exclusions, const std::string &folding) {
-    return npss_open_caseless(handle, bytes(data), data.size(), bytes(exclusions), exclusions.size(), bytes(folding), folding.size());
 }
 
 static void check_open(const Question &asked, Slot &slot, size_t number, bool folds) {
@@ -218,9 +224,11 @@ static void check_call(const Question &asked, Slot slots[SLOTS], const uint8_t *
     }
 }
 
+/* Begins with a handle on each version, and a closed one. */
 void check_sequence(const Question &asked) {
     Slot slots[SLOTS] = {};
     for (Slot &slot : slots) slot.version = -1;
+    for (size_t number = 0; number < VERSIONS; number++) check_share(asked, opened[number], slots[number]);
     for (size_t at = 0; at + 3 <= std::min(asked.text.size(), 3 * MOST_CALLS); at += 3) {
         check_call(asked, slots, bytes(asked.text) + at);
         for (Slot &slot : slots)
