@@ -104,27 +104,38 @@ static const char *file_numbered(uint32_t number) {
     return number - 1 < FILE_COUNT ? file_names[number - 1] : "unknown";
 }
 
+/* Puts a fault at a line of a file. */
+static void put_line(char *room, const char *file, npss_answer answer) {
+    npss_name fault = known(npss_fault_name(answer.status, answer.fault));
+    snprintf(room, FAULT_SIZE, "%s, line %llu: %s", file, (unsigned long long)answer.place, fault.text);
+}
+
+/* Puts a fault at a code point, which so many files have together. */
+static void put_code(char *room, const char *count, npss_answer answer) {
+    npss_name fault = known(npss_fault_name(answer.status, answer.fault));
+    snprintf(room, FAULT_SIZE, "%s files together: %s at code point U+%04X", count, fault.text, (unsigned)answer.code);
+}
+
 npss_name break_kind(npss_answer answer) {
     return known(npss_break_name(answer.fault));
 }
 
 void put_fault(char *room, npss_answer answer) {
-    const char *second = file_names[EXCLUSIONS_FILE];
-    npss_name fault = known(npss_fault_name(answer.status, answer.fault));
     switch (answer.status) {
     case NPSS_DATA:
-    case NPSS_EXCLUSIONS:
-        snprintf(room, FAULT_SIZE, "%s, line %llu: %s", answer.status == NPSS_DATA ? file_names[DATA_FILE] : second,
-                 (unsigned long long)answer.place, fault.text);
+        put_line(room, file_names[DATA_FILE], answer);
         break;
-    case NPSS_TABLES:
-        snprintf(room, FAULT_SIZE, "Both files together: %s at code point U+%04X", fault.text, (unsigned)answer.code);
+    case NPSS_EXCLUSIONS:
+        put_line(room, file_names[EXCLUSIONS_FILE], answer);
         break;
     case NPSS_FOLDING:
-        snprintf(room, FAULT_SIZE, "%s, line %llu: %s", file_names[FOLDING_FILE], (unsigned long long)answer.place, fault.text);
+        put_line(room, file_names[FOLDING_FILE], answer);
+        break;
+    case NPSS_TABLES:
+        put_code(room, "Both", answer);
         break;
     case NPSS_FOLDINGS:
-        snprintf(room, FAULT_SIZE, "The three files together: %s at code point U+%04X", fault.text, (unsigned)answer.code);
+        put_code(room, "The three", answer);
         break;
     case NPSS_TOO_LARGE:
         snprintf(room, FAULT_SIZE, "%s has more than %d bytes", file_numbered(answer.fault), MOST_OF_A_FILE);

@@ -45,11 +45,13 @@ opened(const char *label)
 static text *
 found(npss_answer answer)
 {
+	npss_name	kind = break_kind(answer);
+
 	if (answer.status == NPSS_DONE)
 		return cstring_to_text("extends");
 	if (answer.status == NPSS_NO_FOLDING)
 		return cstring_to_text(psprintf("no %s", file_names[FOLDING_FILE]));
-	return cstring_to_text(psprintf("%s %04X", break_kind(answer).text, answer.code));
+	return cstring_to_text(psprintf("%s %04X", kind.text, answer.code));
 }
 
 /*

@@ -73,13 +73,14 @@ check_row(Version *fresh, const Row *force, bool is_restored)
 	Version    *held = held_version(force);
 	bool		is_newer = fresh->assigned >= force->assigned;
 	npss_answer answer = audit(fresh, held, force, is_newer);
+	npss_name	kind = break_kind(answer);
 
 	if (answer.status != NPSS_DONE)
 		ereport(ERROR,
 				(errcode(ERRCODE_OBJECT_NOT_IN_PREREQUISITE_STATE),
 				 errmsg("Unicode version \"%s\" does not extend \"%s\"",
 						(is_newer ? fresh : held)->label, (is_newer ? held : fresh)->label),
-				 errdetail("First break: %s %04X.", break_kind(answer).text, answer.code),
+				 errdetail("First break: %s %04X.", kind.text, answer.code),
 				 errhint("Keys that are stored could change.  Keep the version in use.")));
 	if (is_newer)
 		return;
