@@ -53,8 +53,9 @@ NAMES = ["Jörg", "Jo\u0308rg", "ﬁn", "fin", "Å", "\u212b", "A\u030a", "\U000
          "\U00010570z", "\U0001E08F\u0301", "한", "\u1112\u1161\u11ab", "", "\u1ead", "a\u0323\u0302", "a\u0302\u0323", "\u0958",
          "\u0915\u093c", "\U0001D15E", "s\u0323\u0307", "s\u0307\u0323", "\u1e69", "\u0378", "\U0001FAE8", "\u0CF3\u0CF3"]
 # What folds alike, is ordered while a mark that folds to a letter is one, or folds to capitals; the last four are of version 14.0.
-CASES = ["JÖRG", "FIN", "FI", "STRASSE", "straße", "STRA\u1e9eE", "ΣΑΣ", "σας", "\u0130", "i\u0307", "\u1fb3\u0301", "\u1fb4", "\u0391\u0345\u0301", "\u03ac\u03b9",
-         "\uab70", "\u13a0", "\u2121", "TEL", "\u212a", "\U0001d400", "\u03b1\u0345\uff9e", "\u03b1\u3099\u0345", "\u2c2f", "\u2c5f", "\U00010570", "\U00010597"]
+CASES = ["JÖRG", "FIN", "FI", "STRASSE", "straße", "STRA\u1e9eE", "ΣΑΣ", "σας", "\u0130", "i\u0307", "\u1fb3\u0301", "\u1fb4",
+         "\u0391\u0345\u0301", "\u03ac\u03b9", "\uab70", "\u13a0", "\u2121", "TEL", "\u212a", "\U0001d400", "\u03b1\u0345\uff9e",
+         "\u03b1\u3099\u0345", "\u2c2f", "\u2c5f", "\U00010570", "\U00010597"]
 # By its place in AGES a version's code points, and what has the same keys in each version, under NFKC alone: no code point
 # of these versions is canonically equivalent to older ones.
 PAIRS = [(1, "\uA7F2", "C"), (1, "\U00010783", "\u00e6"), (1, "x\U000107A5\u0301", "xq\u0301"), (2, "\U0001E030", "\u0430"),

@@ -93,7 +93,8 @@ def outcome(told):
 
 def rows_of(registry):
     """All that is registered."""
-    return [[row.place, row.string, row.key, row.owner, row.parked, row.caseless] for shard in registry.shards for row in registry.store.registrations(shard.number)]
+    return [[row.place, row.string, row.key, row.owner, row.parked, row.caseless]
+            for shard in registry.shards for row in registry.store.registrations(shard.number)]
 
 
 def done(registry, asked):

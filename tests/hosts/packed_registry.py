@@ -40,7 +40,8 @@ def check_registry(tally, root):
     for words, wanted in ((["init", "/tmp/store", *FILES, "--form", "nfkc"], "form nfkc, room 65536, shards 1, equivalents refused, names of at most 1024 bytes\n"),
                           (["claim", "/tmp/store", TEXT, "--owner", "17"], None), (["find", "/tmp/store", COMPATIBLE], None),
                           (["check", "/tmp/store"], None),
-                          (["init", "--caseless", "/tmp/people", *FILES, FOLDING], "form nfc, caseless, room 65536, shards 1, equivalents refused, names of at most 1024 bytes\n"),
+                          (["init", "--caseless", "/tmp/people", *FILES, FOLDING],
+                           "form nfc, caseless, room 65536, shards 1, equivalents refused, names of at most 1024 bytes\n"),
                           (["claim", "/tmp/people", "STRASSE", "--owner", "17"], "registered 'STRASSE' of '17' at place 2\n"),
                           (["find", "/tmp/people", "stra\u00dfe"], "2\t'STRASSE'\t17\n"), (["check", "/tmp/people"], None)):
         status, written = root.run("npss-registry", *words)

@@ -2,7 +2,8 @@
 """tests/on_demand/chaos_plants.py [--seconds N] [NAME..] PROGRAM: plants bugs into the registry, and sees that chaos finds each.
 
 Each bug is one edit of a copy of hosts/registry. Chaos runs over the copy, over a SQLite file and over a Redis server,
-under NFC and NFKC in turn, half a minute each, for a bug of caseless logs over such, until it fails or N seconds are over, 180 where nobody says otherwise. First it
+under NFC and NFKC in turn, half a minute each, and for a bug of caseless logs over such, until it fails or
+N seconds are over, 180 where nobody says otherwise. First it
 runs over the registry as it is, and has to pass. What chaos doesn't do is found by a test of the registry's own. On demand:
 not called by ./test. Ends in a line 'N passed, M failed'.
 """
@@ -78,9 +79,11 @@ PLANTS = {
         shard.check_end()
 """, ""),
     "a parked name counts by its key": ("shards.py", """self._store.holder_of_key(self.number, claim.unique)""",
-                                        """next((one for one in self._store.registrations(self.number) if (one.key if one.parked else one.caseless) == claim.unique), None)""",
+                                        """next((one for one in self._store.registrations(self.number)
+                     if (one.key if one.parked else one.caseless) == claim.unique), None)""",
                                         "CaselessVersions.test_a_lagging_node_counts_the_caseless_key_of_a_parked_name"),
-    "a shard goes by the key": ("registry.py", "self._shard_of(claim.unique), claim))", "self._shard_of(claim.key), claim))", "Caseless.test_many_claims_at_once"),
+    "a shard goes by the key": ("registry.py", "self._shard_of(claim.unique), claim))", "self._shard_of(claim.key), claim))",
+                                "Caseless.test_many_claims_at_once"),
     "names are one by their keys": ("records.py", """        return self.key if self.caseless is None else self.caseless
 
 """, """        return self.key
@@ -99,7 +102,8 @@ TESTED = {
     "a record is not examined that comes to taken": ("examine.py", """        if self._made(False, claim.string) not in (None, claim.key):
 """, """        if False:
 """, "Examined.test_a_wrong_key_of_a_claim_that_comes_to_taken"),
-    "a caseless key that a record carries is not compared": ("examine.py", """        if self.setup.caseless and self._made(True, claim.string) not in (None, claim.caseless):
+    "a caseless key that a record carries is not compared": ("examine.py", """\
+        if self.setup.caseless and self._made(True, claim.string) not in (None, claim.caseless):
 """, """        if False:
 """, "CaselessLogs.test_a_wrong_caseless_key_stops_each_node_that_can_make_it"),
     "a caseless key of a parked name is not compared": ("shards.py", """            self._examiner.claim(place, claim)
@@ -113,8 +117,8 @@ TESTED = {
                                                   "CaselessTrims.test_what_stands_beside_the_log_has_caseless_keys"),
     "the program's caseless keys are not compared": ("judge.py", """        self._compare_caseless(shard, ledger, stores)
 """, "", "CaselessJudging.test_what_another_program_makes_is_seen"),
-    "a row's caseless key is not compared": ("judge.py", "    return (one.key,) if one.caseless is None else (one.key, one.caseless)\n", "    return (one.key,)\n",
-                                             "CaselessJudging.test_names_that_no_version_has_in_full"),
+    "a row's caseless key is not compared": ("judge.py", "    return (one.key,) if one.caseless is None else (one.key, one.caseless)\n",
+                                             "    return (one.key,)\n", "CaselessJudging.test_names_that_no_version_has_in_full"),
     "a version is audited without its folding": ("registry.py", "tables.first_break(self.tables, self.setup.caseless)", "tables.first_break(self.tables)",
                                                  "CaselessVersions.test_a_version_is_audited_with_its_folding"),
     "names are the same by their keys": ("registry.py", "if first != second or self.setup.caseless:", "if first != second:",

@@ -6,7 +6,7 @@ It works on copies of the stores, each of one moment, and on the log, which only
 import os
 import sqlite3
 import tempfile
-from collections.abc import Collection, Sequence
+from collections.abc import Collection, Iterator, Sequence
 from contextlib import ExitStack
 from dataclasses import dataclass
 from typing import Optional, Union
@@ -144,16 +144,14 @@ class Judge:
         """Each caseless key of the log and of the stores is the one that the programs make under the last version."""
         if self._world.caseless is None:
             return
-        found = {(one.string, one.caseless): f"shard {shard}: the log has at place {one.place}" for one in ledger.all}
-        for store in stores:
-            for row in store.past(shard):
-                found.setdefault((row.string, row.caseless), f"shard {shard}, {store.path}: the store has at place {row.place}")
+        found: dict[tuple[str, Optional[str]], str] = {}
+        for one, where in _stand(shard, ledger, stores):
+            found.setdefault((one.string, one.caseless), f"{where} has at place {one.place}")
         unjudged = {string for string, _ in found if self._world.tables[-1].first_unassigned(string)}
         self.unjudged |= unjudged
         answers = self._world.caseless.answers({string for string, _ in found} - unjudged)
-        for (string, key), where in found.items():
-            if string in answers and answers[string] != f"={key}":
-                self.findings.append(f"{where} {string!r} with the caseless key {key!r}; the program answers {answers[string]!r}")
+        self.findings += [f"{where} {string!r} with the caseless key {key!r}; the program answers {answers[string]!r}"
+                          for (string, key), where in found.items() if answers.get(string, f"={key}") != f"={key}"]
 
 
 class _ShardJudge:
@@ -300,6 +298,12 @@ class _ShardJudge:
         wanted = lacks(error) if error is not None else "kept"
         if reply != wanted:
             self.findings.append(f"{one.string!r} at place {one.place}: the store has {reply!r}, its version {wanted!r}")
+
+
+def _stand(shard: int, ledger: Ledger, stores: Sequence[Store]) -> Iterator[tuple[Union[Registered, Registration], str]]:
+    """All registrations of the log and of its stores, each with where it stands."""
+    yield from ((one, f"shard {shard}: the log") for one in ledger.all)
+    yield from ((row, f"shard {shard}, {store.path}: the store") for store in stores for row in store.past(shard))
 
 
 def _keys(one: Union[Registered, Registration]) -> tuple[str, ...]:

@@ -81,7 +81,8 @@ def check_files(version: Version, setup: Setup) -> None:
 
 def told(setup: Setup) -> str:
     """A setup for people."""
-    return (f"form {setup.form}{', caseless' if setup.caseless else ''}, room {setup.room}, shards {setup.shards}, equivalents {'allowed' if setup.equivalents else 'refused'}"
+    return (f"form {setup.form}{', caseless' if setup.caseless else ''}, room {setup.room}"
+            + f", shards {setup.shards}, equivalents {'allowed' if setup.equivalents else 'refused'}"
             + f", names of at most {setup.most_bytes} bytes" + (f", name {setup.name}" if setup.name else ""))
 
 

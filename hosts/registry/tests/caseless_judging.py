@@ -49,7 +49,8 @@ class CaselessJudging(CaselessCase):
         node.close()
         path = node.store.path
         self.assertEqual(self.judged(path), [])
-        for change in ("UPDATE registration SET caseless = CAST('A' AS BLOB) WHERE place = 2", "UPDATE registration SET caseless = CAST('A' AS BLOB) WHERE place = 3",
+        for change in ("UPDATE registration SET caseless = CAST('A' AS BLOB) WHERE place = 2",
+                       "UPDATE registration SET caseless = CAST('A' AS BLOB) WHERE place = 3",
                        "UPDATE registration SET caseless = NULL WHERE place = 3", "UPDATE setup SET caseless = 0", "UPDATE version SET folding = NULL",
                        "UPDATE version SET folding_sum = zeroblob(32)", "UPDATE version SET folding_sum = NULL"):
             copy = str(self.folder / "copy")
@@ -71,7 +72,8 @@ class CaselessJudging(CaselessCase):
         for change, answer in (("s/^=a$/=A/", "=A"), ("s/^=a$/!not UTF-8 at byte 0/", "!not UTF-8 at byte 0"), ("s/^=i$/!too long/", "!too long")):
             found = self.found(node.store.path, self.beside(f"\"$LINES\" \"$@\" | sed '{change}'"))
             self.assertRegex(found, f"at place [23] '[Af]' with the caseless key '[ai]'; the program answers '{answer}'")
-        for script, why in (('"$LINES" "$@"; exit 3', "status 3"), ('"$LINES" "$@" | head -1', "1 answers to 2 names"), ('"$LINES" "$@"; printf x', "2 answers to 2 names")):
+        for script, why in (('"$LINES" "$@"; exit 3', "status 3"), ('"$LINES" "$@" | head -1', "1 answers to 2 names"),
+                            ('"$LINES" "$@"; printf x', "2 answers to 2 names")):
             self.assertRaisesRegex(StoreError, why, self.found, node.store.path, self.beside(script))
         Path(self.beside("")).with_name("npss_lines").unlink()
         self.assertRaisesRegex(StoreError, "npss_lines can't be run: .*--program", self.found, node.store.path, str(self.folder / "programs" / "npss"))
