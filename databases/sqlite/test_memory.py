@@ -9,10 +9,12 @@ import tempfile
 import unittest
 from pathlib import Path
 
-from cases import CASED_MIDDLE, CASED_NEW, CASED_OLD, EXTENSION, MIDDLE, NEW, OLD, OLD_COUNT, YOUNGEST, Case
+from cases import CASED_MIDDLE, CASED_NEW, CASED_OLD, EXTENSION, MIDDLE, NEW, OLD, OLD_COUNT, YOUNGEST, Case, fixture_rows
 
 # What refuses allocations one by one (its first comment says how it is told).
 REFUSE = Path(__file__).resolve().parents[2] / "tests" / "program" / "refusals" / "refuse.c"
+# How many code points the first toy version assigns.
+TOY_COUNT = 17_660
 
 
 class Memory(Case):
@@ -60,30 +62,29 @@ print(base.execute("SELECT npss_nfc('a')").fetchone()[0])
     @unittest.skipUnless(shutil.which("cc") and shutil.which("sqlite3"), "cc or SQLite's shell is not here")
     def test_a_raise_that_was_refused_memory_is_undone(self):
         """Each allocation of a raise within a transaction is refused in turn. Behind the rollback keys are those of before."""
-        self.raised_and_undone(OLD, NEW, "npss_try_key")
+        self.raised_and_undone((OLD, NEW), f"npss_try_key('{YOUNGEST}')", OLD_COUNT)
 
     @unittest.skipUnless(shutil.which("cc") and shutil.which("sqlite3"), "cc or SQLite's shell is not here")
     def test_a_raise_with_foldings_that_was_refused_memory_is_undone(self):
-        self.raised_and_undone(CASED_OLD, CASED_NEW, "npss_try_caseless_key")
+        # The published foldings take an allocation for each code point, so these are the toy versions.
+        with tempfile.TemporaryDirectory() as name:
+            toys = [fixture_rows.put_toy(Path(name, version), version) for version in ("v1", "v2")]
+            self.raised_and_undone(toys, "npss_try_caseless_key('\U00016d67')", TOY_COUNT)
 
-    def raised_and_undone(self, old, new, call):
-        before = [f".load {EXTENSION}", f"SELECT npss_raise('{old}');", "BEGIN;"]
-        raised = [f"SELECT npss_raise('{new}');"]
-        behind = [f"SELECT {call}('{YOUNGEST}');", "ROLLBACK;", f"SELECT 'end', npss_version(), {call}('{YOUNGEST}') IS NULL;"]
+    def raised_and_undone(self, versions, call, count):
+        before = [f".load {EXTENSION}", f"SELECT npss_raise('{versions[0]}');", "BEGIN;"]
+        raised = [f"SELECT npss_raise('{versions[1]}');"]
+        behind = [f"SELECT {call};", "ROLLBACK;", f"SELECT 'end', npss_version(), {call} IS NULL;"]
         with tempfile.TemporaryDirectory() as name:
             shim = Path(name, "refuse.so")
             subprocess.run(["cc", "-O2", "-shared", "-fPIC", "-o", shim, REFUSE], check=True)
             first, last = (self.allocations(shim, Path(name), statements) for statements in (before, before + raised))
             self.assertGreater(last, first)
-            # Foldings take an allocation for each code point: some of those, and each of SQLite's own behind them.
-            step = 1 + (last - first) // 300
-            ends = self.refused_each(shim, Path(name), before + raised + behind, first - 20, step)
-            if step > 1:
-                ends += self.refused_each(shim, Path(name), before + raised + behind, last - 100, 1)
+            ends = self.refused_each(shim, Path(name), before + raised + behind, first - 20)
         # Where the statement was refused that begins the transaction, or the one that undoes it, nothing is undone.
         told = [out.splitlines()[-1] for out, err in ends if not re.search("line [36]: out of memory", err) and "\nend|" in f"\n{out}"]
-        self.assertGreater(len(told), (last - first) // step // 2)
-        self.assertEqual(set(told), {f"end|{OLD_COUNT}|1"})
+        self.assertGreater(len(told), (last - first) // 2)
+        self.assertEqual(set(told), {f"end|{count}|1"})
 
     def shell(self, shim, folder, statements, **told):
         """A run of SQLite's shell over a database in memory, with the shim that is told so; what it wrote."""
@@ -98,9 +99,9 @@ print(base.execute("SELECT npss_nfc('a')").fetchone()[0])
         self.shell(shim, folder, statements, REFUSE_COUNTS=str(folder / "counts"))
         return int((folder / "counts").read_text().split()[0])
 
-    def refused_each(self, shim, folder, statements, first, step):
-        """What copies of a run wrote to both outputs, each of which was refused one allocation, from a place on in steps."""
-        self.shell(shim, folder, statements, REFUSE="memory:0:", REFUSE_EACH=f"{first}:{step}", REFUSE_ENDS=str(folder / "ends"))
+    def refused_each(self, shim, folder, statements, first):
+        """What copies of a run wrote to both outputs, each of which was refused one allocation, from a place on."""
+        self.shell(shim, folder, statements, REFUSE="memory:0:", REFUSE_EACH=f"{first}:1", REFUSE_ENDS=str(folder / "ends"))
         told, found = (folder / "ends").read_bytes(), []
         while told:
             line, _, told = told.partition(b"\n")

@@ -88,7 +88,7 @@ PLANTS = {
     "a session that lags doesn't follow by questions": (RECORD, "likely(!known.lags) ? version : followed(call, DEBUG1)", "true ? version : followed(call, DEBUG1)", "Standby"),
     "npss_version doesn't tell that it lags": (OWNER, "BoolGetDatum(label_not_here() != NULL)", "BoolGetDatum(false)", "Standby"),
     "an audit doesn't tell that it lags": (OWNER, "if (now != NULL && label_not_here() != NULL)", "if (now == NULL && label_not_here() != NULL)", "Standby"),
-    "files that are recorded already are not told": (RAISE, "\tif (!is_own)\n", "\tif (false)\n", "Upgrades"),
+    "files that are recorded already are not told": (RAISE, "\tif (!is_own)\n", "\tif (is_own && false)\n", "Upgrades"),
     # PostgreSQL: files and settings
     "a label may have 32 bytes": (COMMON, "length < size", "length <= size", "Words"),
     "a file of the greatest size is refused": (COMMON, "about.st_size > MOST_OF_A_FILE", "about.st_size >= MOST_OF_A_FILE", "Words"),
