@@ -159,7 +159,7 @@ PLANTS = {
     "a session doesn't look for the third file again": (RECORD, "if (known.unfolded && known.looked", "if (false && known.looked", "FoldingsAway"),
     "a version is audited without the recorded foldings": (RAISE, "if (row->folding[0] != '\\0' && strcmp(held->folding, row->folding) != 0)", "if (false)", "Foldings"),
     "npss_ready doesn't look at the third file": (OWNER, "if (row->folding[0] != '\\0' && strcmp(row->folding, version->folding) != 0)", "if (false)", "FoldingsAway"),
-    "npss_ready takes any version behind foldings": (OWNER, "if (!is_recorded && force->folding[0]", "if (false && force->folding[0]", "Caseless"),
+    "npss_ready takes any version behind foldings": (OWNER, "if (!is_recorded && force->folding[0]", "if (!is_recorded && version->assigned < 0 && force->folding[0]", "Caseless"),
     "an audit doesn't tell that foldings lack": (OWNER, "if (now != NULL && lacks_foldings())", "if (false)", "FoldingsAway"),
     "ANALYZE wants foldings": (RECORD, "\tif (!is_analyzing())\n\t\treport_unfolded(ERROR);", "\treport_unfolded(ERROR);", "FoldingsAway"),
     "the foldings of a dump are not compared": (RAISE, "if (*is_restored && folding[0] != '\\0' && strcmp(", "if (false && strcmp(", "FoldingsDumped"),
