@@ -321,11 +321,21 @@ class FoldingsPreloaded(Apart):
     def more_versions(cls):
         copied(cls.versions, {"plain": VERSIONS / "14.0", "odd": VERSIONS / "13.0"})
         (cls.versions / "odd" / FOLDING).write_bytes(b"x\n")
+        exclusions = cls.versions / "odd" / FILES[1]
+        exclusions.write_bytes(exclusions.read_bytes() + b"# the same\n")
 
     def test_sessions_share_them(self):
         base = self.base("preloaded", "15.0")
         self.assertEqual(self.server.sql("SELECT npss_caseless_nfkc('ZO\u00cb'), preloaded FROM npss_version()", base), "zo\u00eb|t")
         self.assertIn("the files of Unicode version \"odd\" are faulty", (self.server.folder / "log").read_text(encoding="utf-8"))
+
+    def test_a_version_whose_foldings_are_faulty_is_shared_without(self):
+        base = self.base("odd")
+        self.server.sql("SET npss.version = 'odd'; CREATE EXTENSION npss VERSION '0.3'", base)
+        self.server.sql("ALTER EXTENSION npss UPDATE", base)
+        self.without(base)
+        self.assertEqual(self.server.sql("SELECT label, preloaded FROM npss_version()", base), "odd|t")
+        self.refused("F0000", "SELECT npss_raise('odd')", base)
 
     def test_a_database_without_foldings_makes_no_caseless_key_by_them(self):
         base = self.base("without")

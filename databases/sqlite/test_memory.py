@@ -9,10 +9,12 @@ import tempfile
 import unittest
 from pathlib import Path
 
-from cases import CASED_MIDDLE, CASED_NEW, CASED_OLD, EXTENSION, MIDDLE, NEW, OLD, OLD_COUNT, YOUNGEST, Case
+from cases import CASED_MIDDLE, CASED_NEW, CASED_OLD, EXTENSION, MIDDLE, NEW, OLD, OLD_COUNT, YOUNGEST, Case, fixture_rows
 
 # What refuses allocations one by one (its first comment says how it is told).
 REFUSE = Path(__file__).resolve().parents[2] / "tests" / "program" / "refusals" / "refuse.c"
+# How many code points the first toy version assigns.
+TOY_COUNT = 17_660
 
 
 class Memory(Case):
@@ -60,16 +62,19 @@ print(base.execute("SELECT npss_nfc('a')").fetchone()[0])
     @unittest.skipUnless(shutil.which("cc") and shutil.which("sqlite3"), "cc or SQLite's shell is not here")
     def test_a_raise_that_was_refused_memory_is_undone(self):
         """Each allocation of a raise within a transaction is refused in turn. Behind the rollback keys are those of before."""
-        self.raised_and_undone(OLD, NEW, "npss_try_key")
+        self.raised_and_undone((OLD, NEW), f"npss_try_key('{YOUNGEST}')", OLD_COUNT)
 
     @unittest.skipUnless(shutil.which("cc") and shutil.which("sqlite3"), "cc or SQLite's shell is not here")
     def test_a_raise_with_foldings_that_was_refused_memory_is_undone(self):
-        self.raised_and_undone(CASED_OLD, CASED_NEW, "npss_try_caseless_key")
+        # The published foldings take an allocation for each code point, so these are the toy versions.
+        with tempfile.TemporaryDirectory() as name:
+            toys = [fixture_rows.put_toy(Path(name, version), version) for version in ("v1", "v2")]
+            self.raised_and_undone(toys, "npss_try_caseless_key('\U00016d67')", TOY_COUNT)
 
-    def raised_and_undone(self, old, new, call):
-        before = [f".load {EXTENSION}", f"SELECT npss_raise('{old}');", "BEGIN;"]
-        raised = [f"SELECT npss_raise('{new}');"]
-        behind = [f"SELECT {call}('{YOUNGEST}');", "ROLLBACK;", f"SELECT 'end', npss_version(), {call}('{YOUNGEST}') IS NULL;"]
+    def raised_and_undone(self, versions, call, count):
+        before = [f".load {EXTENSION}", f"SELECT npss_raise('{versions[0]}');", "BEGIN;"]
+        raised = [f"SELECT npss_raise('{versions[1]}');"]
+        behind = [f"SELECT {call};", "ROLLBACK;", f"SELECT 'end', npss_version(), {call} IS NULL;"]
         with tempfile.TemporaryDirectory() as name:
             shim = Path(name, "refuse.so")
             subprocess.run(["cc", "-O2", "-shared", "-fPIC", "-o", shim, REFUSE], check=True)
@@ -79,7 +84,7 @@ print(base.execute("SELECT npss_nfc('a')").fetchone()[0])
         # Where the statement was refused that begins the transaction, or the one that undoes it, nothing is undone.
         told = [out.splitlines()[-1] for out, err in ends if not re.search("line [36]: out of memory", err) and "\nend|" in f"\n{out}"]
         self.assertGreater(len(told), (last - first) // 2)
-        self.assertEqual(set(told), {f"end|{OLD_COUNT}|1"})
+        self.assertEqual(set(told), {f"end|{count}|1"})
 
     def shell(self, shim, folder, statements, **told):
         """A run of SQLite's shell over a database in memory, with the shim that is told so; what it wrote."""
