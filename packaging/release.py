@@ -37,6 +37,7 @@ def number_of(version):
 
 # Where the version stands a second time, since other tools read it there: the file, what stands before it, and how it is spelled.
 PLACES = (
+    ("README.md", r"^Release ", str),
     ("bindings/python/src/npss/__init__.py", r'^__version__ = "', str),
     ("bindings/rust/Cargo.toml", r'\A\[package\]\nname = "npss"\nversion = "', str),
     ("bindings/rust/Cargo.lock", r'^name = "npss"\nversion = "', str),

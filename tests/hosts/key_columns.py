@@ -60,10 +60,10 @@ class Move:
     def same(self, what, got, want):
         return self.tally.same(f"{self.title}: {what}", got, want)
 
-    def filled(self, what, status, told):
-        """A run of the program, and how long it took."""
+    def filled(self, what, status, told, *folding):
+        """A run of the program, perhaps with a folding file, and how long it took."""
         begun = time.monotonic()
-        words = [sys.executable, PROGRAM, self.store.address, FORM, *self.files]
+        words = [sys.executable, PROGRAM, self.store.address, FORM, *self.files, *folding]
         done = subprocess.run(list(map(str, words)), stdout=subprocess.PIPE, stderr=subprocess.PIPE, text=True, check=False)
         took = time.monotonic() - begun
         self.same(what, (done.returncode, done.stdout.splitlines(), done.stderr), (status, told, ""))
@@ -137,6 +137,12 @@ class Move:
         self.filled("the next run", 0, [])
         self.same("it has its key then", self.store.run("SELECT name, name_key, keyed_name FROM account WHERE id = 5"), [("One", "One", "One")])
 
+    def caseless(self, folding):
+        """With a folding file the column is filled with caseless keys."""
+        self.store.run("UPDATE account SET name_key = NULL, keyed_name = NULL WHERE id = 5")
+        self.filled("a caseless key is filled in", 0, [], folding)
+        self.same("it is caseless", self.store.run("SELECT name, name_key, keyed_name FROM account WHERE id = 5"), [("One", "one", "One")])
+
 
 def edges_of_postgresql(move):
     """The longest key, and a collation that joins keys."""
@@ -197,6 +203,7 @@ def main():
                 move.refusals()
                 EDGES[kind](move)
                 move.meanwhile()
+                move.caseless(files[ucd.FOLDING])
             finally:
                 store.close()
     tally.finish()
