@@ -295,7 +295,7 @@ def check_refused(tally, program, refusals, name, words, given):
             wrong = [(asked, got) for asked, got, _ in ends
                      if not (is_refused_end(kind, got, ample) or (kind == "memory" and got == ample))]
             tally.check(f"{name}: each of {counts[kind]} calls, {kind} {way}", ends and not wrong, shown(wrong[:1]))
-            late = [asked for asked, got, calls in ends if kind != "memory" and not is_last_call(kind, asked, calls, ample)]
+            late = [asked for asked, got, calls in ends if kind != "memory" and not is_last_call(kind, asked, got, calls, ample)]
             tally.check(f"{name}: no call behind it, {kind} {way}", not late, shown(late[:1]))
     for kind in WAYS:
         tally.same(f"{name}: {kind}s of one byte", refusals.run(program, words, given, REFUSE=f"{kind}:0:one"), ample)
