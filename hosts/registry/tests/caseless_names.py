@@ -125,15 +125,17 @@ class CaselessLogs(CaselessCase):
         node.claim("\ue000", "x")
         node.forget("\ue000")
         told = [json.loads(body) for _, body in self.bodies()]
-        self.assertEqual((told[0]["setup"], told[0]["caseless"], told[1]["caseless"], "caseless" in told[2]), (2, True, "aa", False))
+        self.assertEqual((told[0]["setup"], told[0]["caseless"], told[1]["caseless"], "caseless" in told[2]), (4, True, "aa", False))
         self.assertEqual(base64.b64decode(told[1]["claim"]), message("nfkc", "\ue000", "\ue000"))
-        self.assertEqual(read(1, spelled(Snapshot(node.setup))).setup, node.setup)
+        snapshot = spelled(Snapshot(node.setup))
+        self.assertEqual((json.loads(snapshot)["setup"], read(1, snapshot).setup), (5, node.setup))
 
     def test_other_logs_stay_as_they_are(self):
         self.setup = Setup("nfkc", 100, 1, False)
         path = super().store("one", OLD)
         node = self.open(path)
         node.claim("A", "x")
+        self.assertEqual([json.loads(spelled(record))["setup"] for record in (node.setup, Snapshot(node.setup))], [2, 3])
         self.assertEqual([sorted(json.loads(body)) for _, body in self.bodies()], [
             ["before", "equivalents", "form", "kept", "most_bytes", "name", "nonce", "room", "setup", "shards"], ["claim", "nonce", "owner"]])
         # What nodes have passed over so far is passed over.
@@ -147,7 +149,19 @@ class CaselessLogs(CaselessCase):
         told = json.loads(spelled(replace(self.setup, name="n")))
         for words in ({"caseless": 1}, {"caseless": None}, {"caseless": "true"}, {"equivalents": True}):
             self.assertRaisesRegex(LogBroken, "is no record", read, 1, json.dumps({**told, **words}).encode(), 2)
-        self.assertEqual(read(1, json.dumps({**told, "caseless": False}).encode(), 2), replace(self.setup, name="n", caseless=False))
+        self.assertEqual(read(1, json.dumps({**told, "setup": 2, "caseless": False}).encode(), 2), replace(self.setup, name="n", caseless=False))
+
+    def test_an_older_program_reads_no_setup_of_a_caseless_log(self):
+        """It knows the setups 1 to 3, and passes over a word that it doesn't know: so a caseless log has none of them, and another log no other."""
+        told = json.loads(spelled(replace(self.setup, name="n")))
+        for number in range(2, 7):
+            for caseless, own in ({"caseless": True}, (4, 5)), ({"caseless": False}, (2, 3)), ({}, (2, 3)):
+                record = {name: one for name, one in {**told, "setup": number}.items() if name != "caseless"} | caseless
+                if number in own:
+                    found = read(1, json.dumps(record).encode(), 2)
+                    self.assertIs((found.setup if isinstance(found, Snapshot) else found).caseless, bool(caseless.get("caseless")), record)
+                else:
+                    self.assertRaisesRegex(LogBroken, "is no record", read, 1, json.dumps(record).encode(), 2)
 
     def test_a_claim_without_its_caseless_key_is_no_record(self):
         for string, key in (("A", "A"), (YOUNG, YOUNG), (YOUNG_A, YOUNG_A)):
