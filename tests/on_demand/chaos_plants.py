@@ -113,6 +113,7 @@ TESTED = {
                                                   "CaselessLogs.test_a_claim_without_its_caseless_key_is_no_record"),
     "an older program reads the setup of a caseless log": ("records.py", "_SETUP, _SNAPSHOT = (2, 4), (3, 5)", "_SETUP, _SNAPSHOT = (2, 2), (3, 3)",
                                                            "CaselessLogs.test_an_older_program_reads_no_setup_of_a_caseless_log"),
+    "a missing program is a faulty file": ("command.py", "InUse, NoProgram, CannotServe)):", "InUse, CannotServe)):", "Statuses.test_a_program_that_is_missing"),
     "a snapshot has no caseless keys": ("snapshots.py", "    return told if name.caseless is None else [*told, name.caseless]\n", "    return told\n",
                                         "CaselessTrims.test_a_store_begins_with_the_caseless_keys_of_a_snapshot"),
     "a snapshot's sum leaves caseless keys out": ("records.py", "for text in name[1:] if text is not None]", "for text in name[1:4]]",

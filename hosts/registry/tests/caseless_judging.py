@@ -11,6 +11,7 @@ from cases import FOLDED_NEW, FOLDED_OLD, OLD, PROGRAM, YOUNG, YOUNG_A, changed,
 from caseless_names import CaselessCase
 from npss_registry import LogBroken, NotOneChain, Registry, StoreError, init
 from npss_registry.caseless import CaselessKeys
+from npss_registry.errors import NoProgram
 from npss_registry.judge import Judge
 from npss_registry.records import Name, Setup, sum_of_names
 from npss_registry.relog import relog
@@ -76,7 +77,7 @@ class CaselessJudging(CaselessCase):
                             ('"$LINES" "$@"; printf x', "2 answers to 2 names")):
             self.assertRaisesRegex(StoreError, why, self.found, node.store.path, self.beside(script))
         Path(self.beside("")).with_name("npss_lines").unlink()
-        self.assertRaisesRegex(StoreError, "npss_lines can't be run: .*--program", self.found, node.store.path, str(self.folder / "programs" / "npss"))
+        self.assertRaisesRegex(NoProgram, "npss_lines can't be run: .*--program", self.found, node.store.path, str(self.folder / "programs" / "npss"))
 
     def test_names_and_caseless_keys_with_line_ends(self):
         data, folding = self.folder / "data", self.folder / "folding"
