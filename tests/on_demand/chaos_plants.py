@@ -114,6 +114,8 @@ TESTED = {
     "an older program reads the setup of a caseless log": ("records.py", "_SETUP, _SNAPSHOT = (2, 4), (3, 5)", "_SETUP, _SNAPSHOT = (2, 2), (3, 3)",
                                                            "CaselessLogs.test_an_older_program_reads_no_setup_of_a_caseless_log"),
     "a missing program is a faulty file": ("command.py", "InUse, NoProgram, CannotServe)):", "InUse, CannotServe)):", "Statuses.test_a_program_that_is_missing"),
+    "a later store doesn't take from the log that it is caseless": ("registry.py", "caseless=setup.caseless or found.caseless)", "caseless=setup.caseless)",
+                                                                    "CaselessStores.test_the_words"),
     "a snapshot has no caseless keys": ("snapshots.py", "    return told if name.caseless is None else [*told, name.caseless]\n", "    return told\n",
                                         "CaselessTrims.test_a_store_begins_with_the_caseless_keys_of_a_snapshot"),
     "a snapshot's sum leaves caseless keys out": ("records.py", "for text in name[1:] if text is not None]", "for text in name[1:4]]",

@@ -210,8 +210,11 @@ class CaselessStores(CaselessCase):
     def test_later_stores_take_it_from_the_log(self):
         self.store("one")
         self.assertEqual(replace(init(str(self.folder / "two"), version(FOLDED_OLD), None, self.log), name=""), self.setup)
-        self.assertRaisesRegex(Differs, "caseless", init, str(self.folder / "three"), version(FOLDED_OLD), replace(self.setup, caseless=False), self.log)
-        for setup in (None, self.setup):
+        named = replace(self.setup, caseless=False)
+        self.assertEqual(replace(init(str(self.folder / "named"), version(FOLDED_OLD), named, self.log), name=""), self.setup)
+        for setup in (replace(named, equivalents=True), replace(named, form="nfc")):
+            self.assertRaisesRegex(Differs, "caseless", init, str(self.folder / "three"), version(FOLDED_OLD), setup, self.log)
+        for setup in (None, self.setup, named):
             self.assertRaisesRegex(StoreError, "third file", init, str(self.folder / "three"), version(OLD), setup, self.log)
         plain = str(self.folder / "plain")
         for setup in (None, Setup("nfkc", 9, 1, False)):
@@ -231,7 +234,10 @@ class CaselessStores(CaselessCase):
         self.assertEqual(self.run_words("init", "--caseless", path, *FOLDED_OLD, "--form", "nfkc", *log), (0, told, ""))
         other = str(self.folder / "two")
         self.assertEqual(self.run_words("init", other, *OLD, *log)[0], 4)
+        self.assertRegex(self.run_words("init", other, *OLD, "--form", "nfkc", *log)[2], "third file")
+        self.assertRegex(self.run_words("init", other, *FOLDED_OLD, "--equivalents", "--form", "nfkc", *log)[2], "set up otherwise")
         self.assertEqual(self.run_words("init", other, *FOLDED_OLD, *log), (0, told, ""))
+        self.assertEqual(self.run_words("init", str(self.folder / "three"), *FOLDED_OLD, "--form", "nfkc", *log), (0, told, ""))
         self.assertEqual(self.run_words("claim", path, "A", "--owner", "x"), (0, "registered 'A' of 'x' at place 2\n", ""))
         self.assertEqual(self.run_words("claim", other, "a", "--owner", "y"), (1, "taken 'A' of 'x' at place 2\n", ""))
         self.assertEqual(self.run_words("find", other, "a"), (0, "2\t'A'\tx\n", ""))
