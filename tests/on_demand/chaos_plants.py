@@ -103,9 +103,11 @@ TESTED = {
 """, """        if False:
 """, "Examined.test_a_wrong_key_of_a_claim_that_comes_to_taken"),
     "a caseless key that a record carries is not compared": ("examine.py", """\
-        if self.setup.caseless and self._made(True, claim.string) not in (None, claim.caseless):
+        if made not in (None, claim.caseless):
 """, """        if False:
 """, "CaselessLogs.test_a_wrong_caseless_key_stops_each_node_that_can_make_it"),
+    "a caseless key that is parked is not its own": ("examine.py", "            made = self._made(True, claim.caseless)\n", "            return\n",
+                                                     "CaselessVersions.test_a_lagging_node_parks_no_caseless_key_that_is_none"),
     "a caseless key of a parked name is not compared": ("shards.py", """            self._examiner.claim(place, claim)
             if self._take""", """            if self._take""", "CaselessVersions.test_a_wrong_caseless_key_of_a_parked_name_stops_the_upgrade"),
     "a claim without its caseless key is taken": ("records.py", """_text(told["caseless"]) if caseless else None""",

@@ -316,6 +316,24 @@ class CaselessVersions(CaselessCase):
             new.catch_up()
         self.assertEqual(caught.exception.place, place)
 
+    def test_a_lagging_node_parks_no_caseless_key_that_is_none(self):
+        """A caseless key is its own under each earlier version too: so it is examined, as far as the node has its code points."""
+        old, new = self.node("old"), self.node("new", FOLDED_NEW)
+        for caseless in ("A", "f", "\ufb01", "a\u0302", "\ue010"):
+            place = self.written(self.claim(YOUNG + "A", YOUNG + "A", caseless))
+            for node in (old, new):
+                with self.assertRaisesRegex(LogBroken, "its caseless key is not that of its string") as caught:
+                    node.catch_up()
+                self.assertEqual(caught.exception.place, place)
+                node.abandon()
+            self.assertRegex("\n".join(self.judged(old.store.path)), f"at place {place}: its caseless key")
+            changed(self.log, ("DELETE FROM record WHERE place = ?", place))
+            old, new = self.open(old.store.path), self.open(new.store.path)
+        # The old version lacks a code point of this key (KEYS.txt), so it is taken as it is carried.
+        new.claim("A\U00016d67", "x")
+        old.catch_up()
+        self.assertEqual([(row.string, row.caseless) for row in old.status()[0].parked], [("A\U00016d67", "a\U00016d67")])
+
     def test_a_version_is_audited_with_its_folding(self):
         node = self.node("one")
         node.claim("A", "x")
