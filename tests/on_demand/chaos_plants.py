@@ -103,14 +103,21 @@ TESTED = {
 """, """        if False:
 """, "Examined.test_a_wrong_key_of_a_claim_that_comes_to_taken"),
     "a caseless key that a record carries is not compared": ("examine.py", """\
-        if self.setup.caseless and self._made(True, claim.string) not in (None, claim.caseless):
+        if made not in (None, claim.caseless):
 """, """        if False:
 """, "CaselessLogs.test_a_wrong_caseless_key_stops_each_node_that_can_make_it"),
+    "a caseless key that is parked is not its own": ("examine.py", "            made = self._made(True, claim.caseless)\n", "            return\n",
+                                                     "CaselessVersions.test_a_lagging_node_parks_no_caseless_key_that_is_none"),
     "a caseless key of a parked name is not compared": ("shards.py", """            self._examiner.claim(place, claim)
             if self._take""", """            if self._take""", "CaselessVersions.test_a_wrong_caseless_key_of_a_parked_name_stops_the_upgrade"),
     "a claim without its caseless key is taken": ("records.py", """_text(told["caseless"]) if caseless else None""",
                                                   """_text(told.get("caseless") or "") if caseless else None""",
                                                   "CaselessLogs.test_a_claim_without_its_caseless_key_is_no_record"),
+    "an older program reads the setup of a caseless log": ("records.py", "_SETUP, _SNAPSHOT = (2, 4), (3, 5)", "_SETUP, _SNAPSHOT = (2, 2), (3, 3)",
+                                                           "CaselessLogs.test_an_older_program_reads_no_setup_of_a_caseless_log"),
+    "a missing program is a faulty file": ("command.py", "InUse, NoProgram, CannotServe)):", "InUse, CannotServe)):", "Statuses.test_a_program_that_is_missing"),
+    "a later store doesn't take from the log that it is caseless": ("registry.py", "caseless=setup.caseless or found.caseless)", "caseless=setup.caseless)",
+                                                                    "CaselessStores.test_the_words"),
     "a snapshot has no caseless keys": ("snapshots.py", "    return told if name.caseless is None else [*told, name.caseless]\n", "    return told\n",
                                         "CaselessTrims.test_a_store_begins_with_the_caseless_keys_of_a_snapshot"),
     "a snapshot's sum leaves caseless keys out": ("records.py", "for text in name[1:] if text is not None]", "for text in name[1:4]]",

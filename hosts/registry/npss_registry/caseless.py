@@ -7,7 +7,7 @@ from dataclasses import dataclass
 
 from npss import Form
 
-from npss_registry.errors import StoreError
+from npss_registry.errors import NoProgram, StoreError
 
 # Names are handed to a program together, until they have so many bytes.
 MOST_BYTES = 1 << 24
@@ -23,7 +23,7 @@ class CaselessKeys:
     files: Sequence[str]
 
     def answers(self, names: Iterable[str]) -> dict[str, str]:
-        """What the programs answer to each name: `=` and its caseless key, or `!` and why it has none. StoreError where one can't be run."""
+        """What the programs answer to each name: `=` and its caseless key, or `!` and why it has none. NoProgram where one can't be run."""
         found: dict[str, bytes] = {}
         alone: list[str] = []
         lines: list[str] = []
@@ -56,7 +56,7 @@ class CaselessKeys:
         try:
             return subprocess.run([path, *words], input=text, stdout=subprocess.PIPE, stderr=subprocess.PIPE, check=False)
         except OSError as error:
-            raise StoreError(f"the program {path} can't be run: {error.strerror}; it is looked for beside npss, which --program names") from error
+            raise NoProgram(f"the program {path} can't be run: {error.strerror}; it is looked for beside npss, which --program names") from error
 
     def _path(self, name: str) -> str:
         """A program beside npss, which stands on the path where it was named without a folder."""

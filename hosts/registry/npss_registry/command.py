@@ -16,7 +16,7 @@ from npss import BadTables, Refused
 
 from npss_registry import LogAway, Outcome, Registration, Registry, RegistryError, Version, init
 from npss_registry.address import address_of, change_address
-from npss_registry.errors import CannotServe, InUse, StoreAway, StoreError
+from npss_registry.errors import CannotServe, InUse, NoProgram, StoreAway, StoreError
 from npss_registry.failures import modules, plainly
 from npss_registry.judge import Judge
 from npss_registry.logs import check_name
@@ -333,7 +333,7 @@ def failure_of(error: BaseException) -> tuple[int, str]:
     """The status of a failure, and a sentence; none where a pipe was closed, which ends all programs quietly."""
     if isinstance(error, Refused):
         return REFUSED, f"{type(error).__name__}: {error}"
-    if isinstance(error, (LogAway, StoreAway, InUse, CannotServe)):
+    if isinstance(error, (LogAway, StoreAway, InUse, NoProgram, CannotServe)):
         return AWAY, str(error)
     if isinstance(error, (RegistryError, BadTables)):
         return FAULTY, str(error)

@@ -111,5 +111,9 @@ class StoreAway(RegistryError):
     """The store can't be read or written just now, as on a full disk. It can be used once that is over."""
 
 
+class NoProgram(RegistryError):
+    """A program that the judge wants can't be run, as where it is missing."""
+
+
 class CannotServe(RegistryError):
     """What a server wants is missing: a port, a file of tokens, a module."""

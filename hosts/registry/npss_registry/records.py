@@ -24,6 +24,9 @@ _NONCE, _SPELLED_NONCE = 16, 24
 MOST_BYTES = 65_536
 # The running sum of a shard of which nothing was read.
 NOTHING_READ = bytes(32)
+# The number of a setup of the second layout, and that of a snapshot: of another log, and of a caseless one, which a program that
+# knows of no caseless keys has to refuse.
+_SETUP, _SNAPSHOT = (2, 4), (3, 5)
 _FORM_BYTES = {"nfd": b"D", "nfc": b"C", "nfkd": b"d", "nfkc": b"c"}
 FORMS: tuple[Form, ...] = ("nfc", "nfd", "nfkc", "nfkd")
 _ENCODER, _DECODER = json.JSONEncoder(ensure_ascii=False, separators=(",", ":")), json.JSONDecoder()
@@ -150,9 +153,9 @@ def spelled(record: Record) -> bytes:
     elif isinstance(record, SnapshotSum):
         told = {"snapshot": record.place, "names": record.names, "sum": record.sum.hex(), "past": record.past.hex()}
     elif isinstance(record, Snapshot):
-        told = {**_told(record.setup), "setup": 3}
+        told = {**_told(record.setup), "setup": _SNAPSHOT[record.setup.caseless]}
     else:
-        told = {**_told(record), "setup": 2, "kept": record.kept}
+        told = {**_told(record), "setup": _SETUP[record.caseless], "kept": record.kept}
     told["nonce"] = base64.b64encode(secrets.token_bytes(_NONCE)).decode()
     return _ENCODER.encode(told).encode()
 
@@ -203,14 +206,15 @@ def _setup(told: dict[str, object]) -> Union[Setup, Snapshot]:
     first = Setup(form_of(told["form"]), _number(told["room"]), _number(told["shards"]), told["equivalents"])
     if told["setup"] == 1:
         return first
-    if told["setup"] not in (2, 3):
+    caseless = _is_caseless(told, first)
+    if told["setup"] not in (_SETUP[caseless], _SNAPSHOT[caseless]):
         raise ValueError("the setup is of another layout")
     _check_nonce(told)
     most = _number(told.get("most_bytes", MOST_BYTES))
     if not 0 < most <= MOST_BYTES:
         raise ValueError(f"a name has 1 to {MOST_BYTES} bytes at most, not {most}")
-    found = replace(first, name=_text(told["name"]), before=_text(told["before"]), most_bytes=most, caseless=_is_caseless(told, first))
-    if told["setup"] == 3:  # of a log whose setup is of the first layout too, which has no name
+    found = replace(first, name=_text(told["name"]), before=_text(told["before"]), most_bytes=most, caseless=caseless)
+    if told["setup"] == _SNAPSHOT[caseless]:  # of a log whose setup is of the first layout too, which has no name
         return Snapshot(found)
     if not found.name:
         raise ValueError("the log's name is empty")

@@ -42,9 +42,10 @@ class ShardStatus:
 def init(path: str, version: Version, setup: Optional[Setup], log_name: str) -> Setup:
     """Makes a store over a log, and sets the log up where nobody has. Without a setup the log's own is taken.
 
-    Where it tells 0 for the most bytes of a name, a new log allows 1,024, and of another one they are taken. A relative path of
-    the log counts from the store's folder. StoreError of a log that `relog` has begun and not ended, of a version without
-    CaseFolding.txt where the log is caseless, and of one with it where the log isn't.
+    Where it tells 0 for the most bytes of a name, a new log allows 1,024, and of another one they are taken. That a log is caseless
+    is taken too, where the setup doesn't say so. A relative path of the log counts from the store's folder. Differs where the setup
+    isn't the log's. StoreError of a log that `relog` has begun and not ended, of a version without CaseFolding.txt where the log
+    is caseless, and of one with it where the log isn't.
     """
     check_name(log_name)
     tables = version.tables()
@@ -60,7 +61,7 @@ def init(path: str, version: Version, setup: Optional[Setup], log_name: str) -> 
             found = setup_of(log, 0)
             if found is None:
                 raise LogAway("the log: its setup could not be written")
-        if setup is not None and replace(setup, name=found.name, most_bytes=setup.most_bytes or found.most_bytes) != found:
+        if setup is not None and _filled(setup, found) != found:
             raise Differs(f"the log was set up otherwise: {told(found)}")
         check_files(version, found)
         check_whole(log, found, log_name)
@@ -68,6 +69,11 @@ def init(path: str, version: Version, setup: Optional[Setup], log_name: str) -> 
         log.close()
     create(path, found, log_name, version, Node(tables, found.form, found.room).image())
     return found
+
+
+def _filled(setup: Setup, found: Setup) -> Setup:
+    """A setup as it was named, with what is taken from that of a log."""
+    return replace(setup, name=found.name, most_bytes=setup.most_bytes or found.most_bytes, caseless=setup.caseless or found.caseless)
 
 
 def check_files(version: Version, setup: Setup) -> None:

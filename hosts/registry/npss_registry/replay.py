@@ -14,7 +14,7 @@ from typing import Optional
 from npss import Form
 
 from npss_registry.course import Move, Stretch
-from npss_registry.errors import StoreError
+from npss_registry.errors import NoProgram, StoreError
 from npss_registry.ledger import Registered
 
 # What a schedule may have (docs/FORMATS.md, "Schedule").
@@ -143,7 +143,7 @@ class Replay:
             ran = subprocess.run([self.program, "replay", "--form", self.form, path, *self.files],
                                  stdout=subprocess.PIPE, stderr=subprocess.PIPE, stdin=subprocess.DEVNULL, check=False)
         except OSError as error:
-            raise StoreError(f"the program {self.program} can't be run: {error.strerror}; name it by --program") from error
+            raise NoProgram(f"the program {self.program} can't be run: {error.strerror}; name it by --program") from error
         if ran.returncode:
             raise StoreError(f"{self.program} replay: {ran.stderr.decode(errors='replace').strip()}")
         lines = ran.stdout.decode("ascii").splitlines()

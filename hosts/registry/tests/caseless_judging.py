@@ -9,8 +9,9 @@ from pathlib import Path
 
 from cases import FOLDED_NEW, FOLDED_OLD, OLD, PROGRAM, YOUNG, YOUNG_A, changed, version
 from caseless_names import CaselessCase
-from npss_registry import LogBroken, Registry, StoreError, init
+from npss_registry import LogBroken, NotOneChain, Registry, StoreError, init
 from npss_registry.caseless import CaselessKeys
+from npss_registry.errors import NoProgram
 from npss_registry.judge import Judge
 from npss_registry.records import Name, Setup, sum_of_names
 from npss_registry.relog import relog
@@ -76,7 +77,7 @@ class CaselessJudging(CaselessCase):
                             ('"$LINES" "$@"; printf x', "2 answers to 2 names")):
             self.assertRaisesRegex(StoreError, why, self.found, node.store.path, self.beside(script))
         Path(self.beside("")).with_name("npss_lines").unlink()
-        self.assertRaisesRegex(StoreError, "npss_lines can't be run: .*--program", self.found, node.store.path, str(self.folder / "programs" / "npss"))
+        self.assertRaisesRegex(NoProgram, "npss_lines can't be run: .*--program", self.found, node.store.path, str(self.folder / "programs" / "npss"))
 
     def test_names_and_caseless_keys_with_line_ends(self):
         data, folding = self.folder / "data", self.folder / "folding"
@@ -226,6 +227,28 @@ class CaselessTrims(CaselessCase):
         self.assertEqual([node.claim(name, "y").what for name in ("a", "\u00e2")], ["taken", "taken"])
         node.close()
         self.assertEqual(relog(paths, new).lost, [])
+        self.assertEqual(self.judged(*paths), [])
+
+    def test_a_machine_with_another_folding_file_stops_the_others(self):
+        """Its file meets all conditions, so nothing tells at `init` that it is another one. The others go on in a new log, without it."""
+        folding = self.folder / "folding"
+        lines = Path(FOLDED_OLD[2]).read_text(encoding="utf-8").splitlines(keepends=True)
+        folding.write_text("".join(line for line in lines if not line.startswith("E000;")), encoding="utf-8")
+        other, right = self.node("other", [*OLD, str(folding)]), [self.node(name) for name in ("one", "two")]
+        right[0].claim("A", "x")
+        right[1].catch_up()
+        place = other.claim("\ue000", "y").holder.place
+        for node in right:
+            with self.assertRaisesRegex(LogBroken, "its caseless key is not that of its string") as caught:
+                node.catch_up()
+            self.assertEqual(caught.exception.place, place)
+            node.abandon()
+        other.close()
+        paths, new = [node.store.path for node in right], str(self.folder / "new.log")
+        self.assertRaises(NotOneChain, self.open(other.store.path).upgrade, version(FOLDED_OLD))
+        self.assertEqual(relog(paths, new).lost, [])
+        self.log = new
+        self.assertEqual([self.open(path).claim("\ue000", "y").what for path in paths], ["registered"] * 2)
         self.assertEqual(self.judged(*paths), [])
 
     def test_a_branch_that_is_given_up(self):

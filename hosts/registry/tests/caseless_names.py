@@ -125,15 +125,17 @@ class CaselessLogs(CaselessCase):
         node.claim("\ue000", "x")
         node.forget("\ue000")
         told = [json.loads(body) for _, body in self.bodies()]
-        self.assertEqual((told[0]["setup"], told[0]["caseless"], told[1]["caseless"], "caseless" in told[2]), (2, True, "aa", False))
+        self.assertEqual((told[0]["setup"], told[0]["caseless"], told[1]["caseless"], "caseless" in told[2]), (4, True, "aa", False))
         self.assertEqual(base64.b64decode(told[1]["claim"]), message("nfkc", "\ue000", "\ue000"))
-        self.assertEqual(read(1, spelled(Snapshot(node.setup))).setup, node.setup)
+        snapshot = spelled(Snapshot(node.setup))
+        self.assertEqual((json.loads(snapshot)["setup"], read(1, snapshot).setup), (5, node.setup))
 
     def test_other_logs_stay_as_they_are(self):
         self.setup = Setup("nfkc", 100, 1, False)
         path = super().store("one", OLD)
         node = self.open(path)
         node.claim("A", "x")
+        self.assertEqual([json.loads(spelled(record))["setup"] for record in (node.setup, Snapshot(node.setup))], [2, 3])
         self.assertEqual([sorted(json.loads(body)) for _, body in self.bodies()], [
             ["before", "equivalents", "form", "kept", "most_bytes", "name", "nonce", "room", "setup", "shards"], ["claim", "nonce", "owner"]])
         # What nodes have passed over so far is passed over.
@@ -147,7 +149,19 @@ class CaselessLogs(CaselessCase):
         told = json.loads(spelled(replace(self.setup, name="n")))
         for words in ({"caseless": 1}, {"caseless": None}, {"caseless": "true"}, {"equivalents": True}):
             self.assertRaisesRegex(LogBroken, "is no record", read, 1, json.dumps({**told, **words}).encode(), 2)
-        self.assertEqual(read(1, json.dumps({**told, "caseless": False}).encode(), 2), replace(self.setup, name="n", caseless=False))
+        self.assertEqual(read(1, json.dumps({**told, "setup": 2, "caseless": False}).encode(), 2), replace(self.setup, name="n", caseless=False))
+
+    def test_an_older_program_reads_no_setup_of_a_caseless_log(self):
+        """It knows the setups 1 to 3, and passes over a word that it doesn't know: so a caseless log has none of them, and another log no other."""
+        told = json.loads(spelled(replace(self.setup, name="n")))
+        for number in range(2, 7):
+            for caseless, own in ({"caseless": True}, (4, 5)), ({"caseless": False}, (2, 3)), ({}, (2, 3)):
+                record = {name: one for name, one in {**told, "setup": number}.items() if name != "caseless"} | caseless
+                if number in own:
+                    found = read(1, json.dumps(record).encode(), 2)
+                    self.assertIs((found.setup if isinstance(found, Snapshot) else found).caseless, bool(caseless.get("caseless")), record)
+                else:
+                    self.assertRaisesRegex(LogBroken, "is no record", read, 1, json.dumps(record).encode(), 2)
 
     def test_a_claim_without_its_caseless_key_is_no_record(self):
         for string, key in (("A", "A"), (YOUNG, YOUNG), (YOUNG_A, YOUNG_A)):
@@ -196,8 +210,11 @@ class CaselessStores(CaselessCase):
     def test_later_stores_take_it_from_the_log(self):
         self.store("one")
         self.assertEqual(replace(init(str(self.folder / "two"), version(FOLDED_OLD), None, self.log), name=""), self.setup)
-        self.assertRaisesRegex(Differs, "caseless", init, str(self.folder / "three"), version(FOLDED_OLD), replace(self.setup, caseless=False), self.log)
-        for setup in (None, self.setup):
+        named = replace(self.setup, caseless=False)
+        self.assertEqual(replace(init(str(self.folder / "named"), version(FOLDED_OLD), named, self.log), name=""), self.setup)
+        for setup in (replace(named, equivalents=True), replace(named, form="nfc")):
+            self.assertRaisesRegex(Differs, "caseless", init, str(self.folder / "three"), version(FOLDED_OLD), setup, self.log)
+        for setup in (None, self.setup, named):
             self.assertRaisesRegex(StoreError, "third file", init, str(self.folder / "three"), version(OLD), setup, self.log)
         plain = str(self.folder / "plain")
         for setup in (None, Setup("nfkc", 9, 1, False)):
@@ -217,7 +234,10 @@ class CaselessStores(CaselessCase):
         self.assertEqual(self.run_words("init", "--caseless", path, *FOLDED_OLD, "--form", "nfkc", *log), (0, told, ""))
         other = str(self.folder / "two")
         self.assertEqual(self.run_words("init", other, *OLD, *log)[0], 4)
+        self.assertRegex(self.run_words("init", other, *OLD, "--form", "nfkc", *log)[2], "third file")
+        self.assertRegex(self.run_words("init", other, *FOLDED_OLD, "--equivalents", "--form", "nfkc", *log)[2], "set up otherwise")
         self.assertEqual(self.run_words("init", other, *FOLDED_OLD, *log), (0, told, ""))
+        self.assertEqual(self.run_words("init", str(self.folder / "three"), *FOLDED_OLD, "--form", "nfkc", *log), (0, told, ""))
         self.assertEqual(self.run_words("claim", path, "A", "--owner", "x"), (0, "registered 'A' of 'x' at place 2\n", ""))
         self.assertEqual(self.run_words("claim", other, "a", "--owner", "y"), (1, "taken 'A' of 'x' at place 2\n", ""))
         self.assertEqual(self.run_words("find", other, "a"), (0, "2\t'A'\tx\n", ""))
@@ -295,6 +315,24 @@ class CaselessVersions(CaselessCase):
         with self.assertRaisesRegex(LogBroken, "its caseless key") as caught:
             new.catch_up()
         self.assertEqual(caught.exception.place, place)
+
+    def test_a_lagging_node_parks_no_caseless_key_that_is_none(self):
+        """A caseless key is its own under each earlier version too: so it is examined, as far as the node has its code points."""
+        old, new = self.node("old"), self.node("new", FOLDED_NEW)
+        for caseless in ("A", "f", "\ufb01", "a\u0302", "\ue010"):
+            place = self.written(self.claim(YOUNG + "A", YOUNG + "A", caseless))
+            for node in (old, new):
+                with self.assertRaisesRegex(LogBroken, "its caseless key is not that of its string") as caught:
+                    node.catch_up()
+                self.assertEqual(caught.exception.place, place)
+                node.abandon()
+            self.assertRegex("\n".join(self.judged(old.store.path)), f"at place {place}: its caseless key")
+            changed(self.log, ("DELETE FROM record WHERE place = ?", place))
+            old, new = self.open(old.store.path), self.open(new.store.path)
+        # The old version lacks a code point of this key (KEYS.txt), so it is taken as it is carried.
+        new.claim("A\U00016d67", "x")
+        old.catch_up()
+        self.assertEqual([(row.string, row.caseless) for row in old.status()[0].parked], [("A\U00016d67", "a\U00016d67")])
 
     def test_a_version_is_audited_with_its_folding(self):
         node = self.node("one")

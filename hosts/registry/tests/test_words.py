@@ -15,7 +15,7 @@ import unittest
 from pathlib import Path
 
 import npss
-from cases import NEW, OLD, PROGRAM, YOUNG
+from cases import FOLDED_OLD, NEW, OLD, PROGRAM, YOUNG
 from serving import TOKEN, ServingCase
 
 DONE, NO, WORDS, REFUSED, FAULTY, AWAY = range(6)
@@ -109,10 +109,19 @@ class Statuses(WordsCase):
         for words in (("status", "none"), ("status", "text"), ("status", "empty"), ("status", "."), ("init", store, *OLD), ("upgrade", store, OLD[1], OLD[0]),
                       ("init", "other", OLD[1], OLD[0]),
                       ("init", "other", *OLD, "--log", "store.log", "--form", "nfd"), ("backup", store, store), ("serve", "none", "--port", "0"),
-                      ("check", store, "--program", "none"), ("check", "none", "--program", PROGRAM)):
+                      ("check", "none", "--program", PROGRAM)):
             self.sees(FAULTY, "", *words)
         self.sees(DONE, "", "upgrade", store, *NEW)
         self.sees(FAULTY, "not one chain", "upgrade", store, *OLD)
+
+    def test_a_program_that_is_missing(self):
+        store = self.store()
+        self.sees(DONE, "caseless", "init", "folded", *FOLDED_OLD, "--caseless")
+        self.sees(DONE, "registered", "claim", "folded", "A", "--owner", "x")
+        (self.folder / "npss").symlink_to(Path(PROGRAM).absolute())
+        for named, program, missing in ((store, "none", "none"), ("folded", "none", "none"), ("folded", "./npss", "npss_lines")):
+            for command in ("check", "trim"):
+                self.sees(AWAY, f"{missing} can't be run: .*--program", command, named, "--program", program)
 
     def test_a_damaged_store(self):
         store = self.store()
