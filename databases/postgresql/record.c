@@ -19,6 +19,7 @@
 #include "utils/builtins.h"
 #include "utils/inval.h"
 #include "utils/lsyscache.h"
+#include "utils/plancache.h"
 #include "utils/rel.h"
 #include "utils/timestamp.h"
 
@@ -359,7 +360,10 @@ needs_no_tables(FunctionCallInfo call, const char *text, size_t length)
 	return known.ascii;
 }
 
-/* The record may have changed: the next call reads it again.  Comes by commits of others, here and on standbys. */
+/*
+ * The record may have changed: the next call reads it again.  Comes by commits of others, here and on standbys, and where a raise
+ * of this session is rolled back: a plan may have keys that were made by what that had recorded, so none is kept.
+ */
 static void
 record_changed(Datum unused, Oid relation)
 {
@@ -368,6 +372,8 @@ record_changed(Datum unused, Oid relation)
 		known.table = InvalidOid;
 		known.version = NULL;
 	}
+	if (relation == watched && OidIsValid(watched))
+		ResetPlanCache();
 }
 
 void

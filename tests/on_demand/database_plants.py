@@ -157,6 +157,7 @@ PLANTS = {
     "any version of the two files has the foldings": (VERSIONS, "(folding[0] == '\\0' || strcmp(version->folding, folding) == 0)", "(folding[0] == '\\0' || version->folding[0] == '\\0')", "Foldings"),
     "a version without foldings is in force beside one with some": (RECORD, "a < b ? 1 : by_folding(lfirst(left), lfirst(right))", "a < b ? 1 : by_folding(lfirst(right), lfirst(left))", "Foldings"),
     "a session doesn't look for the third file again": (RECORD, "if (known.unfolded && known.looked", "if (false && known.looked", "FoldingsAway"),
+    "a plan keeps a key of a raise that was rolled back": (RECORD, "\t\tResetPlanCache();\n", "\t\t;\n", "Following"),
     "a version is audited without the recorded foldings": (RAISE, "if (row->folding[0] != '\\0' && strcmp(held->folding, row->folding) != 0)", "if (false)", "Foldings"),
     "npss_ready doesn't look at the third file": (OWNER, "if (row->folding[0] != '\\0' && strcmp(row->folding, version->folding) != 0)", "if (false)", "FoldingsAway"),
     "npss_ready takes any version behind foldings": (OWNER, "if (!is_recorded && force->folding[0]", "if (!is_recorded && version->assigned < 0 && force->folding[0]", "Caseless"),
