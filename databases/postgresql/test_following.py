@@ -27,3 +27,30 @@ class Following(Apart):
             self.assertEqual(session.ask("SELECT npss_raise('13.0'); INSERT INTO account VALUES ('Stra\u00dfe')"), "13.0")
             self.assertEqual(session.ask(f"EXECUTE asked; SELECT asked(); {asked}"), "1\n1\n1", end)
             self.doCleanups()
+
+    def test_a_session_that_lags_follows_by_caseless_calls(self):
+        base = self.base("lagging", "13.0")
+        self.put("15.0")
+        self.server.sql("SELECT npss_raise('15.0')", base)
+        away = (self.versions / "15.0").rename(self.folder / "away")
+        try:
+            sessions = [self.session(base) for _ in CALLS]
+            for session, call in zip(sessions, CALLS):
+                for _ in range(2):
+                    told = session.ask(f"SELECT {call}")
+                    self.assertIn('ERROR:  55000: npss: the files of Unicode version "15.0" are not here, and "13.0" was recorded without CaseFolding.txt', told)
+                    self.assertNotIn("npss_raise", told)
+                self.assertEqual(session.ask(f"SELECT npss_nfc('{YOUNGEST}') IS NULL").count("22021"), 1)
+        finally:
+            away.rename(self.versions / "15.0")
+        for session, call, answer in zip(sessions, CALLS, ANSWERS):
+            self.assertEqual(session.ask(f"SELECT {call}"), answer)
+
+    def test_a_session_that_lags_behind_a_version_without_foldings(self):
+        base = self.base("behind", "13.0")
+        self.server.sql("SELECT npss_raise('15.0')", base)
+        away = (self.versions / "15.0").rename(self.folder / "away")
+        self.addCleanup(away.rename, self.versions / "15.0")
+        told = self.refused("55000", "SELECT npss_caseless_nfc('A')", base)
+        self.assertIn('Unicode version "15.0" was recorded without CaseFolding.txt, and makes no caseless keys', told)
+        self.assertIn("npss_raise('15.0') takes it", told)
