@@ -28,7 +28,7 @@ static struct
 {
 	Oid			table;			/* npss_record, where it was read and has not changed since; else invalid */
 	bool		ascii;			/* texts of ASCII are their own keys under the version in force */
-	bool		lags;			/* the files of the version in force were not here: an earlier one serves */
+	bool		lags;			/* the files of the version in force were not here: another one serves */
 	bool		folds;			/* what serves was recorded with foldings, and has them */
 	bool		unfolded;		/* what serves was recorded with foldings, which were not here */
 	bool		late;			/* what serves was recorded without foldings, and the version in force with some */
@@ -175,6 +175,7 @@ static void
 serve(Version *version, const Row *row, const Row *force)
 {
 	known.version = version;
+	known.lags = row != force;
 	strlcpy(known.folding, row->folding, DIGEST_SIZE);
 	known.folds = row->folding[0] != '\0' && strcmp(version->folding, row->folding) == 0;
 	known.unfolded = row->folding[0] != '\0' && !known.folds;
@@ -209,7 +210,6 @@ open_in_force(Oid function, int level)
 		known.table = InvalidOid;
 		return NULL;
 	}
-	known.lags = version->assigned < ((Row *) linitial(rows))->assigned;
 	known.looked = GetCurrentStatementStartTimestamp();
 	list_free_deep(rows);
 	shut_versions_but(version);

@@ -54,3 +54,23 @@ class Following(Apart):
         told = self.refused("55000", "SELECT npss_caseless_nfc('A')", base)
         self.assertIn('Unicode version "15.0" was recorded without CaseFolding.txt, and makes no caseless keys', told)
         self.assertIn("npss_raise('15.0') takes it", told)
+
+    def test_a_session_follows_to_a_version_with_as_many_code_points(self):
+        base = self.base("as_many", "13.0")
+        folder = copied(self.versions, {"13.0.0": CASED / "13.0"}) / "13.0.0"
+        self.addCleanup(shutil.rmtree, folder)
+        exclusions = folder / FILES[1]
+        exclusions.write_bytes(exclusions.read_bytes() + b"# the same\n")
+        self.server.sql("SELECT npss_raise('13.0.0')", base)
+        self.assertEqual(self.server.sql("SELECT label, lags FROM npss_version()", base), "13.0.0|f")
+        away = folder.rename(self.folder / "away")
+        try:
+            sessions = [self.session(base) for _ in (*CALLS, "npss_version()")]
+            for session in sessions:
+                self.assertIn("and \"13.0\" was recorded without", session.ask("SELECT npss_caseless_nfc('A')"))
+                self.assertEqual(session.ask("SELECT label, lags FROM npss_version()"), "13.0|t")
+        finally:
+            away.rename(folder)
+        self.assertEqual(sessions.pop().ask("SELECT label, lags FROM npss_version()"), "13.0.0|f")
+        for session, call, answer in zip(sessions, CALLS, ANSWERS):
+            self.assertEqual(session.ask(f"SELECT {call}"), answer)
