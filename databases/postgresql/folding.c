@@ -25,7 +25,7 @@ refuse_without_folding(const char *newer, const char *older)
 			(errcode(ERRCODE_OBJECT_NOT_IN_PREREQUISITE_STATE),
 			 errmsg("version %s has no %s, which version %s has", newer, file_names[FOLDING_FILE], older),
 			 errdetail("Stored caseless keys need it."),
-			 errhint("Put %s of that version into its folder.", file_names[FOLDING_FILE])));
+			 errhint("Put %s of that version into its folder: npss_raise('%s') takes it.", file_names[FOLDING_FILE], newer)));
 }
 
 /* Whether two rows have one value in a column. */
