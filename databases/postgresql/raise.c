@@ -67,7 +67,7 @@ audit(Version *fresh, Version *held, const Row *force, bool is_newer)
 }
 
 /* Refuses a version that neither extends the one in force nor is extended by it. */
-static void
+void
 check_extends(Version *fresh, const Row *force)
 {
 	Version    *held = held_version(force);
@@ -229,9 +229,6 @@ npss_pg_record_check(PG_FUNCTION_ARGS)
 	/* It keeps other raises away, but not their INSERT, which has its lock already: no two wait for one another. */
 	LockRelationOid(RelationGetRelid(call->tg_relation), ShareUpdateExclusiveLock);
 	if (TRIGGER_FIRED_BY_UPDATE(call->tg_event))
-	{
-		check_update(call);
-		PG_RETURN_POINTER(call->tg_newtuple);
-	}
+		PG_RETURN_POINTER(check_update(call));
 	PG_RETURN_POINTER(check_insert(call));
 }
