@@ -119,7 +119,7 @@ class Foldings(Apart):
         self.put("15.0", (CASED / "15.0" / FOLDING).read_bytes() + b"# the same\n")
         for _ in range(2):
             self.assertEqual(self.server.sql("SELECT npss_caseless_nfc('A')", base), "a")
-            self.server.sql("SELECT npss_raise('15.0')", base)
+            self.assertEqual(self.server.sql("SELECT npss_raise('15.0')", base), "15.0")
         self.assertEqual(sorted(self.recorded(base)), ["15.0b|" + digest_of("15.0"), "15.0|none"])
 
     def test_foldings_under_another_name(self):

@@ -62,7 +62,7 @@ class Following(Apart):
         self.addCleanup(shutil.rmtree, folder)
         exclusions = folder / FILES[1]
         exclusions.write_bytes(exclusions.read_bytes() + b"# the same\n")
-        self.server.sql("SELECT npss_raise('13.0.0')", base)
+        self.assertEqual(self.server.sql("SELECT npss_raise('13.0.0')", base), "13.0.0")
         self.assertEqual(self.server.sql("SELECT label, lags FROM npss_version()", base), "13.0.0|f")
         away = folder.rename(self.folder / "away")
         try:

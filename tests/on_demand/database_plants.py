@@ -116,6 +116,7 @@ PLANTS = {
     "by_whom is the current user": (SQL, "by_whom name NOT NULL DEFAULT session_user", "by_whom name NOT NULL DEFAULT current_user", "Rights"),
     "the extension is trusted": (CONTROL, "trusted = false", "trusted = true", "Rights"),
     "an update leaves npss_raise as it was": (NEWER_SQL, "SELECT r.label FROM", "SELECT $1 FROM", "Upgrades"),
+    "a raise answers another version with as many code points": (NEWER_SQL, "ORDER BY r.label OPERATOR(pg_catalog.=) $1 DESC, ", "ORDER BY ", "Following"),
     "npss_equivalent may stand in an index": (SQL, "'npss_pg_equivalent' LANGUAGE C STABLE", "'npss_pg_equivalent' LANGUAGE C IMMUTABLE"),
     "a key of NULL is asked for": (SQL, "'npss_pg_key' LANGUAGE C IMMUTABLE STRICT", "'npss_pg_key' LANGUAGE C IMMUTABLE"),
     "a key is not parallel": (SQL, "'npss_pg_nfkd' LANGUAGE C IMMUTABLE STRICT PARALLEL SAFE", "'npss_pg_nfkd' LANGUAGE C IMMUTABLE STRICT"),
