@@ -21,6 +21,7 @@
 #include "utils/lsyscache.h"
 #include "utils/plancache.h"
 #include "utils/rel.h"
+#include "utils/syscache.h"
 #include "utils/timestamp.h"
 
 /* What this process knows of the record, until the record changes. */
@@ -371,7 +372,8 @@ needs_no_tables(FunctionCallInfo call, const char *text, size_t length)
 
 /*
  * The record may have changed: the next call reads it again.  Comes by commits of others, here and on standbys, and where a raise
- * of this session is rolled back: a plan may have keys that were made by what that had recorded, so none is kept.
+ * of this session is rolled back: plans and constraints of domains may have keys that were made by what it had recorded, so none
+ * is kept.
  */
 static void
 record_changed(Datum unused, Oid relation)
@@ -382,7 +384,10 @@ record_changed(Datum unused, Oid relation)
 		known.version = NULL;
 	}
 	if (relation == watched && OidIsValid(watched))
+	{
 		ResetPlanCache();
+		CallSyscacheCallbacks(CONSTROID, 0);
+	}
 }
 
 void
