@@ -149,7 +149,7 @@ PLANTS = {
     "a raise takes other foldings than were recorded": (RAISE, "\t\tstrcmp(recorded->folding, fresh->folding) != 0)\n", "\t\tfalse)\n", "Foldings"),
     "foldings are replaced": (FOLDING, "return !has_folding(before, shape) && !is_kept_in", "return !is_kept_in", "Foldings"),
     "foldings come with other changes": (FOLDING, "if (column != FOLDING_COLUMN && !is_kept_in", "if (column > FOLDING_COLUMN && !is_kept_in", "Foldings"),
-    "foldings are recorded that are not here": (FOLDING, "digest) == 0 && strcmp(version->folding, folding) == 0)", "digest) == 0)", "Foldings"),
+    "foldings are recorded that are not here": (FOLDING, "strcmp(version->folding, folding) == 0)", "(strcmp(version->folding, folding) == 0 || folding[0] != '\\0'))", "Foldings"),
     "any row gets foldings later": (FOLDING, "if (!(is_in_force || sent) || ", "if (", "Foldings"),
     "a subscriber stops at foldings that come late": (FOLDING, "return SessionReplicationRole == SESSION_REPLICATION_ROLE_REPLICA &&", "return false &&", "Publication"),
     "a subscriber stops at foldings that it has": (FOLDING, "\t\treturn NULL;\n\tput_column", "\t\t;\n\tput_column", "Publication"),
