@@ -7,7 +7,9 @@
  */
 #include "npss_pg.h"
 
+#include "access/htup_details.h"
 #include "catalog/pg_type.h"
+#include "commands/trigger.h"
 #include "executor/spi.h"
 #include "miscadmin.h"
 #include "utils/builtins.h"
@@ -25,7 +27,7 @@ refuse_without_folding(const char *newer, const char *older)
 			(errcode(ERRCODE_OBJECT_NOT_IN_PREREQUISITE_STATE),
 			 errmsg("version %s has no %s, which version %s has", newer, file_names[FOLDING_FILE], older),
 			 errdetail("Stored caseless keys need it."),
-			 errhint("Put %s of that version into its folder.", file_names[FOLDING_FILE])));
+			 errhint("Put %s of that version into its folder: npss_raise('%s') takes it.", file_names[FOLDING_FILE], newer)));
 }
 
 /* Whether two rows have one value in a column. */
@@ -43,28 +45,33 @@ is_kept_in(HeapTuple before, HeapTuple after, TupleDesc shape, int column)
 	return datum_image_eq(was, is, attribute->attbyval, attribute->attlen);
 }
 
+static bool
+has_folding(HeapTuple row, TupleDesc shape)
+{
+	char		folding[DIGEST_SIZE];
+
+	put_column(row, shape, FOLDING_COLUMN, folding, DIGEST_SIZE);
+	return folding[0] != '\0';
+}
+
 /* Whether a row changes in its foldings alone, of which it had none. */
 static bool
 gets_folding(HeapTuple before, HeapTuple after, TupleDesc shape)
 {
-	char		folding[DIGEST_SIZE];
-
 	if (shape->natts < FOLDING_COLUMN)
 		return false;
 	for (int column = 1; column <= shape->natts; column++)
 		if (column != FOLDING_COLUMN && !is_kept_in(before, after, shape, column))
 			return false;
-	put_column(before, shape, FOLDING_COLUMN, folding, DIGEST_SIZE);
-	return folding[0] == '\0' && !is_kept_in(before, after, shape, FOLDING_COLUMN);
+	return !has_folding(before, shape) && !is_kept_in(before, after, shape, FOLDING_COLUMN);
 }
 
-/* Whether the files of a row's label are here with its foldings, as it records them. */
-static bool
-is_here(HeapTuple row, TupleDesc shape)
+/* The version of a row's label with its foldings; NULL where what is here isn't what it records. */
+static Version *
+version_here(HeapTuple row, TupleDesc shape)
 {
 	Failure		failure;
 	Version    *version;
-	bool		same;
 	char		label[LABEL_SIZE],
 				digest[DIGEST_SIZE],
 				folding[DIGEST_SIZE + 1];	/* so that a longer one is another one */
@@ -75,28 +82,62 @@ is_here(HeapTuple row, TupleDesc shape)
 	version = open_version(label, NULL, &failure);
 	if (version == NULL)
 		report(ERROR, &failure);
-	same = strcmp(version->digest, digest) == 0 && strcmp(version->folding, folding) == 0;
+	if (strcmp(version->digest, digest) == 0 && strcmp(version->folding, folding) == 0)
+		return version;
 	shut_version(version);
-	return same;
+	return NULL;
 }
 
-/* Before a row of the record is updated: refuses all but the row in force that gets the foldings that are here. */
-void
+/* Whether this is a subscriber, and a publisher sends what it recorded of the files of a row. */
+static bool
+is_sent(TriggerData *call, TupleDesc shape)
+{
+	return SessionReplicationRole == SESSION_REPLICATION_ROLE_REPLICA && shape->natts >= FOLDING_COLUMN &&
+		is_kept_in(call->tg_trigtuple, call->tg_newtuple, shape, DIGEST_COLUMN);
+}
+
+/* A row with the foldings of another one, and nothing else of it: the rest is this database's own. */
+static HeapTuple
+with_folding_of(HeapTuple sent, HeapTuple row, TupleDesc shape)
+{
+	int			column = FOLDING_COLUMN;
+	bool		is_null;
+	Datum		folding = SPI_getbinval(sent, shape, column, &is_null);
+
+	return heap_modify_tuple_by_cols(row, shape, 1, &column, &folding, &is_null);
+}
+
+/*
+ * Before a row of the record is updated: refuses all but the row in force that gets the foldings that are here.  A subscriber takes
+ * those of its publisher, past the audit also for a row that it has left; NULL where it has them already.
+ */
+HeapTuple
 check_update(TriggerData *call)
 {
 	TupleDesc	shape = RelationGetDescr(call->tg_relation);
 	List	   *rows = read_rows(call->tg_relation, SnapshotSelf);
+	bool		sent = rows != NIL && is_sent(call, shape),
+				is_in_force;
+	HeapTuple	before = call->tg_trigtuple,
+				row = sent ? with_folding_of(call->tg_newtuple, before, shape) : call->tg_newtuple;
+	Version    *version;
 	char		digest[DIGEST_SIZE];
 
-	put_column(call->tg_trigtuple, shape, DIGEST_COLUMN, digest, DIGEST_SIZE);
-	if (rows == NIL || strcmp(((Row *) linitial(rows))->digest, digest) != 0 ||
-		!gets_folding(call->tg_trigtuple, call->tg_newtuple, shape) || !is_here(call->tg_newtuple, shape))
+	if (sent && has_folding(before, shape) && is_kept_in(before, row, shape, FOLDING_COLUMN))
+		return NULL;
+	put_column(before, shape, DIGEST_COLUMN, digest, DIGEST_SIZE);
+	is_in_force = rows != NIL && strcmp(((Row *) linitial(rows))->digest, digest) == 0;
+	if (!(is_in_force || sent) || !gets_folding(before, row, shape) || (version = version_here(row, shape)) == NULL)
 		ereport(ERROR,
 				(errcode(ERRCODE_OBJECT_NOT_IN_PREREQUISITE_STATE),
 				 errmsg("npss_record only grows"),
 				 errdetail("The row in force may get the digest of the %s that is here, where it has none.  Nothing else changes.",
 						   file_names[FOLDING_FILE])));
+	if (!is_in_force)
+		check_extends(version, linitial(rows));
+	shut_version(version);
 	CacheInvalidateRelcache(call->tg_relation);
+	return row;
 }
 
 /* Records the foldings of a version in the row of its files, as the table's owner: who may raise may do that. */

@@ -7,4 +7,5 @@ AS 'MODULE_PATHNAME', 'npss_pg_version' LANGUAGE C STABLE STRICT PARALLEL SAFE;
 
 -- It answers the label under which the version is recorded.
 CREATE OR REPLACE FUNCTION npss_raise(label text) RETURNS text LANGUAGE sql VOLATILE STRICT
-AS 'INSERT INTO @extschema@.npss_record (label) VALUES ($1); SELECT r.label FROM @extschema@.npss_record AS r ORDER BY r.assigned DESC LIMIT 1';
+AS 'INSERT INTO @extschema@.npss_record (label) VALUES ($1);
+SELECT r.label FROM @extschema@.npss_record AS r ORDER BY r.label OPERATOR(pg_catalog.=) $1 DESC, r.assigned DESC LIMIT 1';

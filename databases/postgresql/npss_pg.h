@@ -133,8 +133,11 @@ extern bool lags_in_analyze(void);
 extern bool needs_no_tables(FunctionCallInfo call, const char *text, size_t length);
 extern void listen_to_record(void);
 
+/* raise.c */
+extern void check_extends(Version *fresh, const Row *force);
+
 /* folding.c */
-extern void check_update(TriggerData *call);
+extern HeapTuple check_update(TriggerData *call);
 extern void record_folding(Relation relation, const Version *version);
 extern void refuse_without_folding(const char *newer, const char *older);
 

@@ -66,9 +66,9 @@ audit(Version *fresh, Version *held, const Row *force, bool is_newer)
 	return keeps_keys(first, second, older[0] != '\0');
 }
 
-/* Refuses a version that neither extends the one in force nor is extended by it; tells of one that comes late. */
-static void
-check_row(Version *fresh, const Row *force, bool is_restored)
+/* Refuses a version that neither extends the one in force nor is extended by it. */
+void
+check_extends(Version *fresh, const Row *force)
 {
 	Version    *held = held_version(force);
 	bool		is_newer = fresh->assigned >= force->assigned;
@@ -82,15 +82,24 @@ check_row(Version *fresh, const Row *force, bool is_restored)
 						(is_newer ? fresh : held)->label, (is_newer ? held : fresh)->label),
 				 errdetail("First break: %s %04X.", kind.text, answer.code),
 				 errhint("Keys that are stored could change.  Keep the version in use.")));
-	if (is_newer)
-		return;
-	if (!is_restored)
+}
+
+/* Refuses a version that comes late, unless it is restored, which is told; and one that doesn't fit the one in force. */
+static void
+check_row(Version *fresh, const Row *force, bool is_restored)
+{
+	bool		is_newer = fresh->assigned >= force->assigned;
+
+	if (!is_newer && !is_restored)
 		ereport(ERROR,
 				(errcode(ERRCODE_OBJECT_NOT_IN_PREREQUISITE_STATE),
-				 errmsg("Unicode version \"%s\" is older than \"%s\", which this database uses", fresh->label, held->label),
+				 errmsg("Unicode version \"%s\" is older than \"%s\", which this database uses", fresh->label, force->label),
 				 errhint("There is no way back: stored keys may need the newer version.")));
+	check_extends(fresh, force);
+	if (is_newer)
+		return;
 	ereport(WARNING,
-			(errmsg("the dump comes from Unicode version \"%s\", and this database uses \"%s\"", fresh->label, held->label),
+			(errmsg("the dump comes from Unicode version \"%s\", and this database uses \"%s\"", fresh->label, force->label),
 			 errhint("To stay with the older version, restore into an empty database with npss.version = '%s'.", fresh->label)));
 }
 
@@ -220,9 +229,6 @@ npss_pg_record_check(PG_FUNCTION_ARGS)
 	/* It keeps other raises away, but not their INSERT, which has its lock already: no two wait for one another. */
 	LockRelationOid(RelationGetRelid(call->tg_relation), ShareUpdateExclusiveLock);
 	if (TRIGGER_FIRED_BY_UPDATE(call->tg_event))
-	{
-		check_update(call);
-		PG_RETURN_POINTER(call->tg_newtuple);
-	}
+		PG_RETURN_POINTER(check_update(call));
 	PG_RETURN_POINTER(check_insert(call));
 }

@@ -19,7 +19,9 @@
 #include "utils/builtins.h"
 #include "utils/inval.h"
 #include "utils/lsyscache.h"
+#include "utils/plancache.h"
 #include "utils/rel.h"
+#include "utils/syscache.h"
 #include "utils/timestamp.h"
 
 /* What this process knows of the record, until the record changes. */
@@ -27,9 +29,10 @@ static struct
 {
 	Oid			table;			/* npss_record, where it was read and has not changed since; else invalid */
 	bool		ascii;			/* texts of ASCII are their own keys under the version in force */
-	bool		lags;			/* the files of the version in force were not here: an earlier one serves */
+	bool		lags;			/* the files of the version in force were not here: another one serves */
 	bool		folds;			/* what serves was recorded with foldings, and has them */
 	bool		unfolded;		/* what serves was recorded with foldings, which were not here */
+	bool		late;			/* what serves was recorded without foldings, and the version in force with some */
 	TimestampTz looked;			/* the beginning of the statement that last looked whether they are here by now */
 	Version    *version;		/* what serves; NULL where no text has wanted it yet */
 	char		label[LABEL_SIZE];	/* of the version in force */
@@ -168,14 +171,16 @@ is_analyzing(void)
 #endif
 }
 
-/* Takes note of what serves, and whether it makes caseless keys. */
+/* Takes note of what serves beside the row in force, and whether it makes caseless keys. */
 static void
-serve(Version *version, const Row *row)
+serve(Version *version, const Row *row, const Row *force)
 {
 	known.version = version;
+	known.lags = row != force;
 	strlcpy(known.folding, row->folding, DIGEST_SIZE);
 	known.folds = row->folding[0] != '\0' && strcmp(version->folding, row->folding) == 0;
 	known.unfolded = row->folding[0] != '\0' && !known.folds;
+	known.late = row->folding[0] == '\0' && force->folding[0] != '\0';
 }
 
 /*
@@ -196,7 +201,7 @@ open_in_force(Oid function, int level)
 		version = open_recorded(lfirst(at), &failure);
 		if (version != NULL)
 		{
-			serve(version, lfirst(at));
+			serve(version, lfirst(at), linitial(rows));
 			break;
 		}
 		report(lnext(rows, at) != NULL ? level : is_analyzing() ? WARNING : ERROR, &failure);
@@ -206,7 +211,6 @@ open_in_force(Oid function, int level)
 		known.table = InvalidOid;
 		return NULL;
 	}
-	known.lags = version->assigned < ((Row *) linitial(rows))->assigned;
 	known.looked = GetCurrentStatementStartTimestamp();
 	list_free_deep(rows);
 	shut_versions_but(version);
@@ -272,17 +276,24 @@ report_unfolded(int level)
 						file_names[FOLDING_FILE], known.version->label),
 				 errdetail("The recorded digest is %s.", known.folding),
 				 errhint("Put the recorded file back.")));
+	else if (known.late)
+		ereport(level,
+				(errcode(ERRCODE_OBJECT_NOT_IN_PREREQUISITE_STATE),
+				 errmsg("npss: the files of Unicode version \"%s\" are not here, and \"%s\" was recorded without %s",
+						known.label, known.version->label, file_names[FOLDING_FILE]),
+				 errhint("Put the recorded files back.")));
 	else
 		ereport(level,
 				(errcode(ERRCODE_OBJECT_NOT_IN_PREREQUISITE_STATE),
 				 errmsg("Unicode version \"%s\" was recorded without %s, and makes no caseless keys",
-						known.version->label, file_names[FOLDING_FILE]),
+						known.label, file_names[FOLDING_FILE]),
 				 errhint("Put %s into its folder: npss_raise('%s') takes it.", file_names[FOLDING_FILE], known.label)));
 }
 
 /*
  * The version in force, for a caseless key; an error where it has no foldings.  NULL as version_in_force, and in ANALYZE, which
- * goes on without.  Where the recorded foldings were not here, it is looked once in a statement whether they are by now.
+ * goes on without.  Where the recorded foldings were not here, or the version that has them, it is looked once in a statement
+ * whether they are by now.
  */
 Version *
 version_with_foldings(FunctionCallInfo call)
@@ -292,7 +303,7 @@ version_with_foldings(FunctionCallInfo call)
 
 	if (version == NULL || likely(known.folds))
 		return version;
-	if (known.unfolded && known.looked != GetCurrentStatementStartTimestamp())
+	if ((known.unfolded || known.late) && known.looked != GetCurrentStatementStartTimestamp())
 		version = open_in_force(call->flinfo->fn_oid, WARNING);
 	if (version == NULL || known.folds)
 		return version;
@@ -359,7 +370,11 @@ needs_no_tables(FunctionCallInfo call, const char *text, size_t length)
 	return known.ascii;
 }
 
-/* The record may have changed: the next call reads it again.  Comes by commits of others, here and on standbys. */
+/*
+ * The record may have changed: the next call reads it again.  Comes by commits of others, here and on standbys, and where a raise
+ * of this session is rolled back: plans and constraints of domains may have keys that were made by what it had recorded, so none
+ * is kept.
+ */
 static void
 record_changed(Datum unused, Oid relation)
 {
@@ -367,6 +382,11 @@ record_changed(Datum unused, Oid relation)
 	{
 		known.table = InvalidOid;
 		known.version = NULL;
+	}
+	if (relation == watched && OidIsValid(watched))
+	{
+		ResetPlanCache();
+		CallSyscacheCallbacks(CONSTROID, 0);
 	}
 }
 

@@ -17,6 +17,7 @@ from test_attacks import Attacks, Missing, Preloaded
 from test_bounds import Bounds, Memory
 from test_caseless import Caseless, LongCaseless
 from test_extension import Extension
+from test_following import Following, Publication, Replica
 from test_foldings import Foldings, FoldingsAway, FoldingsDumped, FoldingsPreloaded
 from test_moving import Moving
 from test_page import Page
