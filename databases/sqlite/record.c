@@ -147,7 +147,8 @@ static int use_own(sqlite3_context *call, connection *self) {
 }
 
 /* Whether the record still has the tables in use, where its schema hasn't changed: 1; 0 where it hasn't; -1 where an error is
- * set. A version of as many code points that extends another one makes the same keys, and as many caseless ones where it folds. */
+ * set. A version of as many code points that extends another one makes the same keys, and as many caseless ones where it folds.
+ * One that a rollback took back needn't be extended by the next one: `look` sees to that. */
 static int is_in_use(sqlite3_context *call, connection *self) {
     sqlite3_int64 recorded = 0;
     int code = ask_number(self->db, "SELECT 2 * assigned + (folding IS NOT NULL) FROM main.npss_record", &recorded);
@@ -193,6 +194,7 @@ static int look(sqlite3_context *call, connection *self) {
     sqlite3_int64 assigned = self->is_recorded ? self->assigned : 0;
     int found = 1, is_new = !self->tables.is_open || now.schema == UNTOLD || now.schema != self->seen.schema;
     int is_sure = !self->may_be_undone && now.data == self->seen.data && now.transaction >= self->seen.transaction;
+    if (self->may_be_undone && now.pager != self->seen.pager) is_new = 1; /* another one may be recorded behind its rollback */
     if (!is_new && is_sure) {
         self->seen = now; /* the connection's own commits, none of which wrote the record */
         return 1;
@@ -213,7 +215,7 @@ static int is_ready(sqlite3_context *call, connection *self, int *ended) {
     if (!is_seen || !self->may_be_undone) return is_seen;
     found = is_in_use(call, self); /* only a rollback can have taken it back */
     *ended = found < 0;
-    return found > 0 && !sqlite3_get_autocommit(self->db);
+    return found > 0 && !sqlite3_get_autocommit(self->db) && is_as_seen(self); /* as it is read now */
 }
 
 /* Sees to it that the tables in use are those of the record as this transaction sees it; 0 where an error is set. Where the

@@ -1,5 +1,6 @@
 """Caseless keys, and records with CaseFolding.txt."""
 
+import itertools
 import shutil
 import sqlite3
 import tempfile
@@ -172,6 +173,26 @@ class Foldings(Folded):
         self.assertEqual(self.asked(base, "npss_raise(?)", CASED_NEW), NEW_COUNT)
         base.execute("ROLLBACK")
         self.assertEqual(self.asked(base, "npss_caseless_key('A')"), "a")
+
+    def test_another_folding_behind_one_that_was_rolled_back(self):
+        room = self.folder()
+        for name, caseless in (("v2", False), ("changed", True)):
+            fixture_rows.put_toy(room / name, name, caseless)
+        for mode, begins in itertools.product(("DELETE", "WAL"), ("SELECT 1", "BEGIN")):
+            path = f"{self.path}.{mode}.{begins}"
+            base, beside = self.with_accounts(room / "v2", path), self.connect(path)
+            base.execute(f"PRAGMA journal_mode = {mode}")
+            base.execute("BEGIN")
+            base.execute("SELECT npss_raise(?)", (str(room / "changed"),))
+            self.assertEqual(self.asked(base, "npss_caseless_key('A')"), "\u00e2")
+            base.execute("ROLLBACK")
+            beside.execute("SELECT npss_raise(?)", (str(fixture_rows.put_toy(room / f"{mode}.{begins}", "v2")),))
+            base.execute(begins)
+            self.assertEqual(self.asked(base, "npss_caseless_key('A')"), "a")
+            base.execute("INSERT INTO account VALUES ('A')")
+            base.commit()
+            self.refused("UNIQUE constraint", beside, "INSERT INTO account VALUES ('a')")
+            self.whole(beside)
 
     def test_an_older_database_gains_the_column_at_its_first_raise(self):
         for folder, told in ((MIDDLE, None), (CASED_MIDDLE, "a")):

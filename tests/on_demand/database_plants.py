@@ -196,6 +196,8 @@ PLANTS = {
     "SQLite: behind a raise's transaction each key looks at the record": (LITE_RECORD, "self->may_be_undone && now->pager == self->seen.pager", "self->may_be_undone", "Looks"),
     "SQLite: a replaced database keeps its tables": (LITE_RECORD, "return data_version(self->db, NULL) == self->seen.pager;", "return 1;", "Replaced"),
     "SQLite: a schema that changed is not looked at": (LITE_RECORD, " || now.schema != self->seen.schema;", ";", "Replaced"),
+    "SQLite: behind a rollback as many code points are the same version": (LITE_RECORD, "if (self->may_be_undone && now.pager != self->seen.pager) is_new = 1;", "", "Replaced"),
+    "SQLite: behind a rollback a transaction doesn't look again": (LITE_RECORD, "(self->db) && is_as_seen(self); /*", "(self->db); /*", "Foldings"),
     "SQLite: where no PRAGMA may be asked nothing is looked at": (LITE_RECORD, "now.schema == UNTOLD || ", "", "Replaced"),
     "SQLite: a statement that goes on keeps tables that were taken back": (LITE_RECORD, "sqlite3_get_auxdata(call, SEEN_TO) == (void *)self->number) return 1;", "sqlite3_get_auxdata(call, SEEN_TO)) return 1;", "Replaced"),
     "SQLite: a statement without tables doesn't look at the file": (LITE_RECORD, "if (transaction == 0) ask_number", "if (0) ask_number", "Replaced"),
