@@ -1,6 +1,7 @@
 """Caseless keys, and records with CaseFolding.txt."""
 
 import itertools
+import os
 import shutil
 import sqlite3
 import tempfile
@@ -293,6 +294,32 @@ class Beside(Folded):
         self.refused("UNIQUE", again, "INSERT INTO account VALUES ('a')")
         self.refused("have no CaseFolding.txt", again, "SELECT npss_raise(?)", NEW)
         self.whole(again)
+
+    def test_a_dump_of_other_foldings_than_opened_tables(self):
+        # Keys are made while the rows come back, and an index behind the record.
+        room = self.folder()
+        for name in fixture_rows.TOYS:
+            fixture_rows.put_toy(room / name, name)
+        base = self.connect()
+        base.execute("CREATE TABLE account (name TEXT, CHECK (npss_caseless_nfc(name) <> ''))")
+        base.execute("SELECT npss_raise(?)", (str(room / "v2"),))
+        base.execute("CREATE UNIQUE INDEX account_name ON account (npss_caseless_nfkc(name))")
+        base.execute("INSERT INTO account VALUES ('A')")
+        fits_not = "neither this database's record nor the files of npss_open extend the other"
+        with self.assertRaisesRegex(sqlite3.Error, fits_not):
+            self.restored(base, str(room / "changed"))
+        # Each statement by itself, and a key is asked for between.
+        again = self.connect(self.path + ".single")
+        again.execute("SELECT npss_open(?)", (str(room / "changed"),))
+        _, *texts, index, _ = [text for text in base.iterdump() if "TRIGGER" not in text]
+        for text in texts:
+            self.assertEqual(self.asked(again, "npss_caseless_key('A')"), "\u00e2")
+            again.execute(text)
+        self.refused(fits_not, again, index)
+        os.unlink(self.path + ".again")
+        again = self.restored(base, str(room / "v1"))
+        self.assertEqual(self.asked(again, "name FROM account WHERE npss_caseless_nfkc(name) = 'a'"), "A")
+        self.whole(self.connect(self.path + ".again"))
 
     def test_a_dump_without_foldings_behind_tables_that_have_some(self):
         again = self.restored(self.raised(OLD), CASED_OLD)
