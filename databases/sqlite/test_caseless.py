@@ -46,6 +46,9 @@ class Folded(Case):
         base = self.connect(path, loads=False)
         base.execute(OLDER_RECORD)
         base.execute("INSERT INTO npss_record VALUES (1, ?, ?, ?)", (283_440, *(Path(files, name).read_bytes() for name in FILES)))
+        for event in ("INSERT", "UPDATE", "DELETE"):
+            base.execute(f"CREATE TRIGGER npss_record_{event.lower()} BEFORE {event} ON npss_record WHEN NOT npss_is_raising() "
+                         "BEGIN SELECT RAISE(ABORT, 'npss: npss_record is written by npss_raise alone'); END")
         base.close()
         return self.connect(path)
 
@@ -217,6 +220,19 @@ class Foldings(Folded):
                     self.refused(LACKS, one, "SELECT npss_caseless_key('A')")
             self.refused("npss_raise alone", base, "UPDATE npss_record SET folding = NULL")
             self.whole(base)
+
+    def test_an_extension_without_foldings_raises_no_more(self):
+        # It would leave the folding that there is beside the two files of another version.
+        files = [Path(NEW, name).read_bytes() for name in FILES]
+        for path in (self.path, self.path + ".older"):
+            base = self.connect(path) if path == self.path else self.older(path=path)
+            base.execute("SELECT npss_raise(?)", (CASED_OLD,))
+            before = self.connect(path, loads=False)
+            before.create_function("npss_is_raising", 0, lambda: 1)
+            self.refused("no such function: npss_is_raising_folding", before, "UPDATE npss_record SET assigned = ?, data = ?, exclusions = ?", NEW_COUNT, *files)
+            self.refused("npss_raise alone", base, "UPDATE npss_record SET assigned = 1")
+            self.assertEqual(self.asked(base, "npss_raise(?)", CASED_NEW), NEW_COUNT)
+            self.assertEqual(self.asked(base, "npss_caseless_key(?)", CAPITAL), SMALL)
 
     def test_blobs(self):
         base = self.connect()

@@ -235,6 +235,8 @@ PLANTS = {
     "SQLite: files without foldings come behind some": (LITE_FILES, "keeps_keys(older, newer, has_foldings(older));", "keeps_keys(older, newer, has_foldings(older) && has_foldings(newer));", "Foldings"),
     "SQLite: foldings are not recorded": (LITE_RAISE, "bound(put, 4, &held->each[FOLDING_FILE])", "sqlite3_bind_null(put, 4) == SQLITE_OK", "Foldings"),
     "SQLite: an older database keeps its columns": (LITE_RAISE, "if (folding_column(self->db, \"main\") == SQLITE_ERROR &&", "if (0 &&", "Foldings"),
+    "SQLite: an extension without foldings raises": (LITE_RAISE, "WHEN NOT npss_is_raising_folding() ", "WHEN NOT npss_is_raising() ", "Foldings"),
+    "SQLite: an older database keeps its trigger": (LITE_RAISE, "DROP TRIGGER IF EXISTS main.npss_record_update; CREATE TRIGGER \" UPDATE_TRIGGER;", "\";", "Foldings"),
     "SQLite: foldings that another one records are not looked at": (LITE_RECORD, "recorded == 2 * self->assigned + self->is_folded;", "recorded / 2 == self->assigned;", "Foldings"),
     "SQLite: attached databases have any foldings": (LITE_ATTACHED, "main ? \"NULL\" : \"a.folding\", other ? \"NULL\" : \"b.folding\"", "\"NULL\", \"NULL\"", "Beside"),
     "SQLite: caseless keys of opened tables are forgotten": (LITE, "self->folded_own = 1;", "self->folded_own = 0;", "Beside"),
