@@ -282,7 +282,11 @@ class Beside(Folded):
             if fits:
                 base.execute(write)
             else:
-                self.refused("records another version", base, write)
+                self.refused("attached database .other. records another folding than the main one", base, write)
+
+    def test_an_attached_database_of_another_version_and_folding(self):
+        for main, other in ((CASED_NEW, CASED_OLD), (CASED_NEW, OLD), (NEW, CASED_OLD)):
+            self.refused("records another version of Unicode than the main one", self.attached(main, other), "INSERT INTO other.account VALUES (npss_nfc('a'))")
 
     def test_attached_databases_of_before(self):
         self.older(NEW, self.path + "2").close()
@@ -293,7 +297,7 @@ class Beside(Folded):
             if fits:
                 base.execute("INSERT INTO other.account VALUES (npss_nfc('a'))")
             else:
-                self.refused("records another version", base, "INSERT INTO other.account VALUES (npss_nfc('a'))")
+                self.refused("records another folding", base, "INSERT INTO other.account VALUES (npss_nfc('a'))")
             base.close()
 
     def restored(self, base, opened=None):

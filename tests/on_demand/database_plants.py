@@ -239,6 +239,7 @@ PLANTS = {
     "SQLite: an older database keeps its trigger": (LITE_RAISE, "DROP TRIGGER IF EXISTS main.npss_record_update; CREATE TRIGGER \" UPDATE_TRIGGER;", "\";", "Foldings"),
     "SQLite: foldings that another one records are not looked at": (LITE_RECORD, "recorded == 2 * self->assigned + self->is_folded;", "recorded / 2 == self->assigned;", "Foldings"),
     "SQLite: attached databases have any foldings": (LITE_ATTACHED, "main ? \"NULL\" : \"a.folding\", other ? \"NULL\" : \"b.folding\"", "\"NULL\", \"NULL\"", "Beside"),
+    "SQLite: an attached folding is told as a version": (LITE_ATTACHED, "told ? \"folding\" : \"version of Unicode\"", "told ? \"version of Unicode\" : \"folding\"", "Beside"),
     "SQLite: caseless keys of opened tables are forgotten": (LITE, "self->folded_own = 1;", "self->folded_own = 0;", "Beside"),
     "SQLite: a record with other foldings fits opened tables": (LITE_RECORD, "both = folds && has_foldings(&self->own);", "both = 0;", "Beside"),
     "SQLite: a caseless key is of another form": (LITE, "&(maker){npss_caseless_key, NPSS_NFKC, 0}", "&(maker){npss_caseless_key, NPSS_NFC, 0}", "Caseless"),
