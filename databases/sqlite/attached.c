@@ -31,13 +31,15 @@ static int ask_attached(sqlite3 *db, const char *form, const char *name, sqlite3
     return ask_made(db, sqlite3_mprintf(form, name), told);
 }
 
-/* Whether an attached database records the files of the main one, as ask_number. */
+/* What an attached database records of the main one's files, as ask_number: 0 where the first two differ, 1 where the foldings do,
+ * and 2 where all are the same. */
 static int ask_same_files(sqlite3 *db, const char *name, sqlite3_int64 *told) {
     int main = folding_column(db, "main"), other = folding_column(db, name);
     if (main != SQLITE_OK && main != SQLITE_ERROR) return main;
     if (other != SQLITE_OK && other != SQLITE_ERROR) return other;
-    return ask_made(db, sqlite3_mprintf("SELECT a.data = b.data AND a.exclusions = b.exclusions AND %s IS %s FROM main.npss_record AS a, "
-                                        "\"%w\".npss_record AS b", main ? "NULL" : "a.folding", other ? "NULL" : "b.folding", name), told);
+    return ask_made(db, sqlite3_mprintf("SELECT (a.data = b.data AND a.exclusions = b.exclusions) * (1 + (%s IS %s)) "
+                                        "FROM main.npss_record AS a, \"%w\".npss_record AS b",
+                                        main ? "NULL" : "a.folding", other ? "NULL" : "b.folding", name), told);
 }
 
 /* Sees to it that an attached database records no version, or that of the main database; 0 where an error is set. */
@@ -45,14 +47,12 @@ static int fits(sqlite3_context *call, connection *self, const char *name) {
     sqlite3_int64 told = 0;
     int code = ask_attached(self->db, "SELECT 1 FROM \"%w\".npss_record", name, &told);
     if (code == SQLITE_ERROR || code == SQLITE_DONE) return 1; /* there is no such table, or it is empty */
-    if (code == SQLITE_ROW && self->is_recorded) {
-        told = 0;
-        code = ask_same_files(self->db, name, &told);
-        if (code == SQLITE_ROW && told) return 1;
-    }
+    told = 0;
+    if (code == SQLITE_ROW && self->is_recorded) code = ask_same_files(self->db, name, &told);
     if (code != SQLITE_ROW) return fail_by_database(call);
-    return fail(call, sqlite3_mprintf("npss: the attached database %Q records another version of Unicode than the main one, which makes "
-                                      "its keys: write it through a connection of its own", name));
+    if (told == 2) return 1;
+    return fail(call, sqlite3_mprintf("npss: the attached database %Q records another %s than the main one, which makes its keys: write "
+                                      "it through a connection of its own", name, told ? "folding" : "version of Unicode"));
 }
 
 /* By what an attached database is known again: its file. One in memory is known by its name, and only within a transaction,

@@ -250,6 +250,7 @@ int sqlite3_npss_init(sqlite3 *db, char **error, const sqlite3_api_routines *api
         {"npss_try_caseless_key", 1, ASK, do_try_caseless_key}, {"npss_try_caseless_key", 2, ASK, do_try_caseless_key},
         {"npss_caseless_match", 2, ASK, do_caseless_match}, {"npss_caseless_match", 3, ASK, do_caseless_match},
         {"npss_version", 0, ASK, do_version}, {"npss_is_raising", 0, ASK, do_is_raising},
+        {"npss_is_raising_folding", 0, ASK, do_is_raising},
         /* Not from within a schema. */
         {"npss_open", 1, DIRECT, do_open}, {"npss_open", 2, DIRECT, do_open}, {"npss_open", 3, DIRECT, do_open},
         {"npss_audit", 1, DIRECT, do_audit}, {"npss_audit", 2, DIRECT, do_audit}, {"npss_audit", 3, DIRECT, do_audit},

@@ -77,14 +77,19 @@ void do_open(sqlite3_context *call, int count, sqlite3_value **given) {
 
 static const char insert_text[] = "INSERT INTO main.npss_record (one, assigned, data, exclusions, folding) VALUES (1, ?1, ?2, ?3, ?4)";
 static const char update_text[] = "UPDATE main.npss_record SET assigned = ?1, data = ?2, exclusions = ?3, folding = ?4";
-static const char column_text[] = "ALTER TABLE main.npss_record ADD COLUMN folding BLOB";
+/* An extension that knows no foldings lacks the function that this one asks. So it doesn't raise, which would leave those of the
+ * version before. */
+#define UPDATE_TRIGGER \
+    "main.npss_record_update BEFORE UPDATE ON npss_record WHEN NOT npss_is_raising_folding() " \
+    "BEGIN SELECT RAISE(ABORT, 'npss: npss_record is written by npss_raise alone'); END;"
+static const char column_text[] =
+    "ALTER TABLE main.npss_record ADD COLUMN folding BLOB; DROP TRIGGER IF EXISTS main.npss_record_update; CREATE TRIGGER " UPDATE_TRIGGER;
 static const char record_text[] =
     "CREATE TABLE IF NOT EXISTS main.npss_record (one INTEGER PRIMARY KEY CHECK (one = 1), assigned INTEGER NOT NULL, "
     "data BLOB NOT NULL, exclusions BLOB NOT NULL, folding BLOB);"
     "CREATE TRIGGER IF NOT EXISTS main.npss_record_insert BEFORE INSERT ON npss_record WHEN NOT npss_is_raising() "
     "BEGIN SELECT RAISE(ABORT, 'npss: npss_record is written by npss_raise alone'); END;"
-    "CREATE TRIGGER IF NOT EXISTS main.npss_record_update BEFORE UPDATE ON npss_record WHEN NOT npss_is_raising() "
-    "BEGIN SELECT RAISE(ABORT, 'npss: npss_record is written by npss_raise alone'); END;"
+    "CREATE TRIGGER IF NOT EXISTS " UPDATE_TRIGGER
     "CREATE TRIGGER IF NOT EXISTS main.npss_record_delete BEFORE DELETE ON npss_record WHEN NOT npss_is_raising() "
     "BEGIN SELECT RAISE(ABORT, 'npss: npss_record is written by npss_raise alone'); END";
 

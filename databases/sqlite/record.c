@@ -147,10 +147,12 @@ static int use_own(sqlite3_context *call, connection *self) {
 }
 
 /* Whether the record still has the tables in use, where its schema hasn't changed: 1; 0 where it hasn't; -1 where an error is
- * set. A version of as many code points that extends another one makes the same keys, and as many caseless ones where it folds. */
+ * set. A version of as many code points that extends another one makes the same keys, and as many caseless ones where it folds.
+ * One that a rollback took back needn't be extended by the next one: `look` sees to that. */
 static int is_in_use(sqlite3_context *call, connection *self) {
     sqlite3_int64 recorded = 0;
-    int code = ask_number(self->db, "SELECT 2 * assigned + (folding IS NOT NULL) FROM main.npss_record", &recorded);
+    int code = SQLITE_ERROR;
+    if (self->is_recorded) code = ask_number(self->db, "SELECT 2 * assigned + (folding IS NOT NULL) FROM main.npss_record", &recorded);
     if (code == SQLITE_ERROR) code = ask_number(self->db, "SELECT 2 * assigned FROM main.npss_record", &recorded);
     if (code == SQLITE_ROW) return self->is_recorded && recorded == 2 * self->assigned + self->is_folded;
     if (code == SQLITE_ERROR || code == SQLITE_DONE) return !self->is_recorded;
@@ -187,12 +189,18 @@ static int may_undo(connection *self, const state *now, int is_new) {
     return is_new && now->data == self->seen.data && now->transaction > 1;
 }
 
+/* Whether the connection itself changes no record but by npss_raise. Where there is none, a dump that comes back may bring one. */
+static int is_kept(const connection *self) {
+    return !self->may_be_undone && self->is_recorded;
+}
+
 /* Looks at the record, where the database may be another one; 0 where an error is set. */
 static int look(sqlite3_context *call, connection *self) {
     state now = state_now(self->db);
     sqlite3_int64 assigned = self->is_recorded ? self->assigned : 0;
     int found = 1, is_new = !self->tables.is_open || now.schema == UNTOLD || now.schema != self->seen.schema;
-    int is_sure = !self->may_be_undone && now.data == self->seen.data && now.transaction >= self->seen.transaction;
+    int is_sure = is_kept(self) && now.data == self->seen.data && now.transaction >= self->seen.transaction;
+    if (self->may_be_undone && now.pager != self->seen.pager) is_new = 1; /* another one may be recorded behind its rollback */
     if (!is_new && is_sure) {
         self->seen = now; /* the connection's own commits, none of which wrote the record */
         return 1;
@@ -210,10 +218,11 @@ static int look(sqlite3_context *call, connection *self) {
 /* Whether the tables in use are those of the record; 0 where that has to be looked at, or where it fails, which `ended` tells. */
 static int is_ready(sqlite3_context *call, connection *self, int *ended) {
     int found, is_seen = self->tables.is_open && is_as_seen(self);
-    if (!is_seen || !self->may_be_undone) return is_seen;
-    found = is_in_use(call, self); /* only a rollback can have taken it back */
+    if (!is_seen || is_kept(self)) return is_seen;
+    if (!self->may_be_undone && sqlite3_get_autocommit(self->db)) return 1;
+    found = is_in_use(call, self); /* only a rollback can have taken it back, and only a dump brought it */
     *ended = found < 0;
-    return found > 0 && !sqlite3_get_autocommit(self->db);
+    return found > 0 && !sqlite3_get_autocommit(self->db) && is_as_seen(self); /* as it is read now */
 }
 
 /* Sees to it that the tables in use are those of the record as this transaction sees it; 0 where an error is set. Where the

@@ -1,5 +1,7 @@
 """Caseless keys, and records with CaseFolding.txt."""
 
+import itertools
+import os
 import shutil
 import sqlite3
 import tempfile
@@ -44,6 +46,9 @@ class Folded(Case):
         base = self.connect(path, loads=False)
         base.execute(OLDER_RECORD)
         base.execute("INSERT INTO npss_record VALUES (1, ?, ?, ?)", (283_440, *(Path(files, name).read_bytes() for name in FILES)))
+        for event in ("INSERT", "UPDATE", "DELETE"):
+            base.execute(f"CREATE TRIGGER npss_record_{event.lower()} BEFORE {event} ON npss_record WHEN NOT npss_is_raising() "
+                         "BEGIN SELECT RAISE(ABORT, 'npss: npss_record is written by npss_raise alone'); END")
         base.close()
         return self.connect(path)
 
@@ -173,6 +178,26 @@ class Foldings(Folded):
         base.execute("ROLLBACK")
         self.assertEqual(self.asked(base, "npss_caseless_key('A')"), "a")
 
+    def test_another_folding_behind_one_that_was_rolled_back(self):
+        room = self.folder()
+        for name, caseless in (("v2", False), ("changed", True)):
+            fixture_rows.put_toy(room / name, name, caseless)
+        for mode, begins in itertools.product(("DELETE", "WAL"), ("SELECT 1", "BEGIN")):
+            path = f"{self.path}.{mode}.{begins}"
+            base, beside = self.with_accounts(room / "v2", path), self.connect(path)
+            base.execute(f"PRAGMA journal_mode = {mode}")
+            base.execute("BEGIN")
+            base.execute("SELECT npss_raise(?)", (str(room / "changed"),))
+            self.assertEqual(self.asked(base, "npss_caseless_key('A')"), "\u00e2")
+            base.execute("ROLLBACK")
+            beside.execute("SELECT npss_raise(?)", (str(fixture_rows.put_toy(room / f"{mode}.{begins}", "v2")),))
+            base.execute(begins)
+            self.assertEqual(self.asked(base, "npss_caseless_key('A')"), "a")
+            base.execute("INSERT INTO account VALUES ('A')")
+            base.commit()
+            self.refused("UNIQUE constraint", beside, "INSERT INTO account VALUES ('a')")
+            self.whole(beside)
+
     def test_an_older_database_gains_the_column_at_its_first_raise(self):
         for folder, told in ((MIDDLE, None), (CASED_MIDDLE, "a")):
             path = f"{self.path}.{told}"
@@ -195,6 +220,19 @@ class Foldings(Folded):
                     self.refused(LACKS, one, "SELECT npss_caseless_key('A')")
             self.refused("npss_raise alone", base, "UPDATE npss_record SET folding = NULL")
             self.whole(base)
+
+    def test_an_extension_without_foldings_raises_no_more(self):
+        # It would leave the folding that there is beside the two files of another version.
+        files = [Path(NEW, name).read_bytes() for name in FILES]
+        for path in (self.path, self.path + ".older"):
+            base = self.connect(path) if path == self.path else self.older(path=path)
+            base.execute("SELECT npss_raise(?)", (CASED_OLD,))
+            before = self.connect(path, loads=False)
+            before.create_function("npss_is_raising", 0, lambda: 1)
+            self.refused("no such function: npss_is_raising_folding", before, "UPDATE npss_record SET assigned = ?, data = ?, exclusions = ?", NEW_COUNT, *files)
+            self.refused("npss_raise alone", base, "UPDATE npss_record SET assigned = 1")
+            self.assertEqual(self.asked(base, "npss_raise(?)", CASED_NEW), NEW_COUNT)
+            self.assertEqual(self.asked(base, "npss_caseless_key(?)", CAPITAL), SMALL)
 
     def test_blobs(self):
         base = self.connect()
@@ -244,7 +282,11 @@ class Beside(Folded):
             if fits:
                 base.execute(write)
             else:
-                self.refused("records another version", base, write)
+                self.refused("attached database .other. records another folding than the main one", base, write)
+
+    def test_an_attached_database_of_another_version_and_folding(self):
+        for main, other in ((CASED_NEW, CASED_OLD), (CASED_NEW, OLD), (NEW, CASED_OLD)):
+            self.refused("records another version of Unicode than the main one", self.attached(main, other), "INSERT INTO other.account VALUES (npss_nfc('a'))")
 
     def test_attached_databases_of_before(self):
         self.older(NEW, self.path + "2").close()
@@ -255,7 +297,7 @@ class Beside(Folded):
             if fits:
                 base.execute("INSERT INTO other.account VALUES (npss_nfc('a'))")
             else:
-                self.refused("records another version", base, "INSERT INTO other.account VALUES (npss_nfc('a'))")
+                self.refused("records another folding", base, "INSERT INTO other.account VALUES (npss_nfc('a'))")
             base.close()
 
     def restored(self, base, opened=None):
@@ -272,6 +314,32 @@ class Beside(Folded):
         self.refused("UNIQUE", again, "INSERT INTO account VALUES ('a')")
         self.refused("have no CaseFolding.txt", again, "SELECT npss_raise(?)", NEW)
         self.whole(again)
+
+    def test_a_dump_of_other_foldings_than_opened_tables(self):
+        # Keys are made while the rows come back, and an index behind the record.
+        room = self.folder()
+        for name in fixture_rows.TOYS:
+            fixture_rows.put_toy(room / name, name)
+        base = self.connect()
+        base.execute("CREATE TABLE account (name TEXT, CHECK (npss_caseless_nfc(name) <> ''))")
+        base.execute("SELECT npss_raise(?)", (str(room / "v2"),))
+        base.execute("CREATE UNIQUE INDEX account_name ON account (npss_caseless_nfkc(name))")
+        base.execute("INSERT INTO account VALUES ('A')")
+        fits_not = "neither this database's record nor the files of npss_open extend the other"
+        with self.assertRaisesRegex(sqlite3.Error, fits_not):
+            self.restored(base, str(room / "changed"))
+        # Each statement by itself, and a key is asked for between.
+        again = self.connect(self.path + ".single")
+        again.execute("SELECT npss_open(?)", (str(room / "changed"),))
+        _, *texts, index, _ = [text for text in base.iterdump() if "TRIGGER" not in text]
+        for text in texts:
+            self.assertEqual(self.asked(again, "npss_caseless_key('A')"), "\u00e2")
+            again.execute(text)
+        self.refused(fits_not, again, index)
+        os.unlink(self.path + ".again")
+        again = self.restored(base, str(room / "v1"))
+        self.assertEqual(self.asked(again, "name FROM account WHERE npss_caseless_nfkc(name) = 'a'"), "A")
+        self.whole(self.connect(self.path + ".again"))
 
     def test_a_dump_without_foldings_behind_tables_that_have_some(self):
         again = self.restored(self.raised(OLD), CASED_OLD)

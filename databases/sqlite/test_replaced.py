@@ -22,13 +22,13 @@ class Replaced(Case):
         base.execute("CREATE UNIQUE INDEX account_key ON account (npss_nfd(name))")
         return base
 
-    def sibling(self):
-        """Files of as many code points and bytes as NEW, where a dot below comes behind a circumflex."""
+    def sibling(self, old="0323;COMBINING DOT BELOW;Mn;220", new="0323;COMBINING DOT BELOW;Mn;240"):
+        """Files of as many code points and bytes as NEW, where a dot below comes behind a circumflex; or with another edit."""
         folder = tempfile.TemporaryDirectory()
         self.addCleanup(folder.cleanup)
         for name in FILES:
             text = Path(NEW, name).read_text(encoding="utf-8")
-            Path(folder.name, name).write_text(text.replace("0323;COMBINING DOT BELOW;Mn;220", "0323;COMBINING DOT BELOW;Mn;240"), encoding="utf-8")
+            Path(folder.name, name).write_text(text.replace(old, new), encoding="utf-8")
         return folder.name
 
     def test_by_the_backup_api(self):
@@ -64,6 +64,20 @@ class Replaced(Case):
         base.execute("INSERT INTO account VALUES (?)", (MARKED,))
         self.assertEqual(self.asked(base, "npss_nfd(name) FROM account"), MARKED)
         self.whole(self.connect())
+
+    def test_by_another_raise_behind_one_that_was_rolled_back(self):
+        # Both versions extend the first one, and have as many code points.
+        letter = "1E030;MODIFIER LETTER CYRILLIC SMALL A;Lm;0;L;<super> 043"
+        base, beside = self.with_names(OLD), self.connect()
+        base.execute("CREATE UNIQUE INDEX account_nfkc ON account (npss_nfkc(name))")
+        base.execute("BEGIN")
+        base.execute("SELECT npss_raise(?)", (self.sibling(f"{letter}0", f"{letter}1"),))
+        self.assertEqual(self.asked(base, "npss_nfkc('\U0001e030')"), "\u0431")
+        base.execute("ROLLBACK")
+        beside.execute("SELECT npss_raise(?)", (NEW,))
+        base.execute("INSERT INTO account VALUES ('\U0001e030')")
+        self.refused("UNIQUE constraint", beside, "INSERT INTO account VALUES ('\u0430')")
+        self.whole(beside)
 
     def test_by_the_shells_restore(self):
         base = self.with_names(NEW)
