@@ -306,7 +306,7 @@ class Pages(ServingCase):
         self.assertNotIn("<x>", found)
         self.assertIn("0061 0302", found)
         self.assertIn("Nobody has it", self.page(server, "/search", {"name": "A"}))
-        self.assertIn("not assigned", self.page(server, "/search", {"name": YOUNG}))
+        self.assertIn("unassigned 1DFA at byte 0", self.page(server, "/search", {"name": YOUNG}))
         self.assertIn("The same name", self.page(server, "/why", {"left": "a\u0302", "right": "\u00e2"}))
         other = self.page(server, "/why", {"left": "a\u0302", "right": "a\u0302A"})
         for words in ("Two names", "differ first at code point 2", "<mark>0041</mark>", "230", "only look alike"):
