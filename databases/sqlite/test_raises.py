@@ -353,7 +353,9 @@ class Waits(Case):
         base.execute("PRAGMA busy_timeout = 0")
         thread = self.meanwhile(["BEGIN IMMEDIATE"])
         base.execute("BEGIN")
+        begun = time.monotonic()
         self.refused("npss: database is locked", base, "SELECT npss_raise(?)", NEW)
+        self.assertLess(time.monotonic() - begun, 5)
         self.assertTrue(thread.is_alive())
         base.execute("ROLLBACK")
 
