@@ -119,7 +119,7 @@ class Statuses(WordsCase):
         self.sees(DONE, "caseless", "init", "folded", *FOLDED_OLD, "--caseless")
         self.sees(DONE, "registered", "claim", "folded", "A", "--owner", "x")
         (self.folder / "npss").symlink_to(Path(PROGRAM).absolute())
-        for named, program, missing in ((store, "none", "none"), ("folded", "none", "none"), ("folded", "./npss", "npss_lines")):
+        for named, program, missing in ((store, "none", "none"), ("folded", "./none", "npss_lines"), ("folded", "./npss", "npss_lines")):
             for command in ("check", "trim"):
                 self.sees(AWAY, f"{missing} can't be run: .*--program", command, named, "--program", program)
 
