@@ -217,7 +217,7 @@ static PyObject *tables_open(PyObject *class, PyObject *const *given, Py_ssize_t
         made->state = state;
         a = open_files(&made->handle, files);
         if (a.status != NPSS_DONE) {
-            refuse(state, a, NULL);
+            refuse_files(state, a, taken);
             Py_CLEAR(made);
         } else {
             ask_once(made);
