@@ -1,6 +1,6 @@
 //! The program `npss`: what it does for its words, over any opener of files and any streams.
 
-ghost use Rattle.std.specs.Prelude.{◌≡◌, ◌≤◌, ◌++◌, [], length, flat_map, map, string_bytes, List, Some, None, ◌∷◌, IfOk, IfErr, OnOk};
+ghost use Rattle.std.specs.Prelude.{◌≡◌, ◌≤◌, ◌*◌, ◌++◌, [], length, flat_map, map, string_bytes, vec_len, List, Some, None, ◌∷◌, IfOk, IfErr, OnOk};
 ghost use Rattle.std.specs.List.{AllZip};
 ghost use Rattle.np_code_points.specs.Watched.{device_of};
 ghost use Rattle.np_jobs.specs.Audits.{AuditEnds};
@@ -138,6 +138,30 @@ fn run_key_under<P: Opener, I: Read, O: Write, E: Write>(
     }
 }
 
+/// Opens the file of a schedule, and then those of versions.
+///
+/// # Errors
+///
+/// The status that was told, of the first that can't be opened, or where memory ran out.
+fn open_scheduled<P: Opener, E: Write>(
+    with: &Resources<'_, P>,
+    error: &mut Watched<E>,
+    schedule_file: &str,
+    version_files: &[VersionFiles],
+) -> Result<(Watched<P::File>, Vec<Watched<P::File>>), u8>
+    ensures schedule { IfOk result (λ opened. P.gives with.now.opener.now schedule_file.now (P.File.remaining (device_of opened.0))) }
+    ensures files { IfOk result (λ opened. AllZip (P.gives with.now.opener.now) (flat_map names_of version_files.now)
+        (map (λ file. P.File.remaining (device_of file)) opened.1.items)) }
+    ensures count { IfOk result (λ opened. vec_len opened.1 ≡ 2 * length version_files.now) }
+    ensures silent { OnOk result (error.new ≡ error.old) }
+    ensures told { IfErr result (IsUnopened (P.gives with.now.opener.now) (P.lacks with.now.opener.now)
+        (schedule_file.now ∷ flat_map names_of version_files.now) (stream_of E.contents error.old error.new)) }
+{
+    let schedule = open_file(with.opener, with.alloc, error, schedule_file)?;
+    let files = open_versions(with.opener, with.alloc, error, version_files)?;
+    Ok((schedule, files))
+}
+
 /// Opens the files of `replay` and runs it, or tells which of them can't be opened. Answers the status.
 fn run_replay<P: Opener, I: Read, O: Write, E: Write>(
     with: &Resources<'_, P>,
@@ -161,12 +185,8 @@ fn run_replay<P: Opener, I: Read, O: Write, E: Write>(
         output,
         error,
     } = streams;
-    let mut schedule = match open_file(with.opener, with.alloc, error, schedule_file) {
-        Ok(schedule) => schedule,
-        Err(status) => return status,
-    };
-    match open_versions(with.opener, with.alloc, error, version_files) {
-        Ok(mut files) => replay_job(
+    match open_scheduled(with, error, schedule_file, version_files) {
+        Ok((mut schedule, mut files)) => replay_job(
             with.alloc,
             form,
             &mut schedule,

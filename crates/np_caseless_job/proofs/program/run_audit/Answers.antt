@@ -1,10 +1,13 @@
-use Rattle.std.proofs.Common.{inl}
+use Rattle.std.proofs.Common.{inl, inr, refl}
 use Rattle.np_jobs.proofs.OpeningLemmas.{ends_before}
 use Rattle.np_jobs.specs.Streams.{stream_of}
 use Rattle.np_caseless_job.specs.CaselessAudits.{FoldedAuditEnds}
 use Rattle.np_caseless_job.specs.FoldedVersions.{folded_readers_of}
 use Rattle.np_caseless_job.specs.Pairs.{PairReaders}
 use Rattle.np_caseless_job.proofs.program.run_audit.Goals as goal
+
+pub returns-in-Err-clause-ends : goal.returns-in-Err-clause-ends
+returns-in-Err-clause-ends c = inr (c.in-Err.ensures.told, refl, refl)
 
 pub returns-in-Ok-clause-ends : goal.returns-in-Ok-clause-ends
 returns-in-Ok-clause-ends g c =

@@ -1,8 +1,11 @@
-use Rattle.std.proofs.Common.{inl, refl}
+use Rattle.std.proofs.Common.{inl, inr, refl}
 use Rattle.np_jobs.proofs.OpeningLemmas.{ends_before}
 use Rattle.np_jobs.specs.Streams.{stream_of}
 use Rattle.np_jobs.specs.Texts.{TextReaders}
 use Rattle.np_jobs.proofs.version_jobs.run_over_version.Goals as goal
+
+pub returns-in-Err : goal.returns-in-Err
+returns-in-Err c = inr (c.in-Err.ensures.told, refl, refl)
 
 pub returns-in-Ok : goal.returns-in-Ok
 returns-in-Ok g c =

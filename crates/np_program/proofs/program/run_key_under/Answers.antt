@@ -1,9 +1,12 @@
-use Rattle.std.proofs.Common.{[], ◌∷◌, inl, refl}
+use Rattle.std.proofs.Common.{[], ◌∷◌, inl, inr, refl}
 use Rattle.np_jobs.proofs.OpeningLemmas.{ends_before}
 use Rattle.np_jobs.specs.KeysUnder.{KeyUnderEnds, UnderReaders}
 use Rattle.np_jobs.specs.Chains.{readers_of}
 use Rattle.np_jobs.specs.Streams.{stream_of}
 use Rattle.np_program.proofs.program.run_key_under.Goals as goal
+
+pub returns-in-Err : goal.returns-in-Err
+returns-in-Err c = inr (c.in-Err.ensures.told, refl, refl)
 
 pub returns-in-Ok : goal.returns-in-Ok
 returns-in-Ok g c =
