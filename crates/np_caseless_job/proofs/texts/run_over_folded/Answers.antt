@@ -6,7 +6,7 @@ use Rattle.np_caseless_job.specs.FoldedVersions.{folded_readers_of}
 use Rattle.np_caseless_job.proofs.texts.run_over_folded.Goals as goal
 
 pub returns-in-Err : goal.returns-in-Err
-returns-in-Err c = inr (c.in-Err.ensures.told, refl, refl)
+returns-in-Err g c = inr (c.in-Err.ensures.told, refl, refl)
 
 pub returns-in-Ok : goal.returns-in-Ok
 returns-in-Ok g c =

@@ -5,7 +5,7 @@ use Rattle.np_jobs.specs.Texts.{TextReaders}
 use Rattle.np_jobs.proofs.version_jobs.run_over_version.Goals as goal
 
 pub returns-in-Err : goal.returns-in-Err
-returns-in-Err c = inr (c.in-Err.ensures.told, refl, refl)
+returns-in-Err g c = inr (c.in-Err.ensures.told, refl, refl)
 
 pub returns-in-Ok : goal.returns-in-Ok
 returns-in-Ok g c =

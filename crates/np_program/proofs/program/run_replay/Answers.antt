@@ -9,7 +9,7 @@ use Rattle.np_words.specs.Words.{names_of}
 use Rattle.np_program.proofs.program.run_replay.Goals as goal
 
 pub returns-in-Err-clause-ends : goal.returns-in-Err-clause-ends
-returns-in-Err-clause-ends c = inr (c.in-Err.ensures.told, refl, refl)
+returns-in-Err-clause-ends g c = inr (c.in-Err.ensures.told, refl, refl)
 
 pub returns-in-Ok-clause-ends : goal.returns-in-Ok-clause-ends
 returns-in-Ok-clause-ends g c =
