@@ -42,7 +42,9 @@ class Opening(unittest.TestCase):
     def test_faults_are_told(self):
         error = self.refused(b"# none\n0041;x\n", b"")
         self.assertEqual((error.file, error.line, error.name, error.code), ("data", 2, "FieldCount", None))
-        self.assertEqual(str(error), "data: line 2: FieldCount")
+        self.assertEqual(str(error), "data: line 2: FieldCount; data and exclusions may be swapped")
+        error = self.refused(b"0041;x\n", b"")
+        self.assertEqual((error.path, str(error)), (None, "data: line 1: FieldCount"))
         error = self.refused(b"", b"none")
         self.assertEqual((error.file, error.line, error.name), ("exclusions", 1, "BadCode"))
         error = self.refused(b"0041;X;Lu;0;L;0042;;;;N;;;;;\n", b"")
@@ -50,6 +52,29 @@ class Opening(unittest.TestCase):
         self.assertEqual(str(error), "tables: MapsToUnassigned 0041")
         error = self.refused(b"", b"\n" * 16777217)
         self.assertEqual((error.file, error.line, error.name), ("exclusions", None, "TooLarge"))
+
+    def test_a_fault_names_its_file(self):
+        data = V1[0]
+        with tempfile.NamedTemporaryFile("w") as file:
+            file.write("# CompositionExclusions.txt\n\n0958    #  DEVANAGARI LETTER QA\n")
+            file.flush()
+            self.assertEqual(Tables.open(data, file.name).count, 17660)
+            error = self.refused(file.name, data)
+        self.assertEqual((error.file, error.name, error.path), ("data", "FieldCount", file.name))
+        self.assertEqual(str(error), f"data: line 3: FieldCount, in {file.name!r}; data and exclusions may be swapped")
+        self.assertEqual(str(pickle.loads(pickle.dumps(error))), str(error))
+        error = self.refused(data, Path(data))
+        self.assertEqual((error.path, str(error)), (Path(data), f"exclusions: line 1: {error.name}, in {data!r}"))
+        self.assertEqual(self.refused(data, b"none").path, None)
+        with tempfile.NamedTemporaryFile("w") as file:
+            file.write("0041;X;Lu;0;L;0042;;;;N;;;;;\n")
+            file.flush()
+            error = self.refused(file.name, b"")
+        self.assertEqual((error.path, str(error)), (None, "tables: MapsToUnassigned 0041"))
+        with tempfile.NamedTemporaryFile() as file:
+            file.truncate(1 << 40)
+            error = self.refused(file.name, b"")
+        self.assertEqual((error.path, str(error)), (file.name, f"data: TooLarge, in {file.name!r}"))
 
     def test_what_is_no_file(self):
         with self.assertRaises(FileNotFoundError):
@@ -313,8 +338,8 @@ class Caseless(unittest.TestCase):
                 continue
             with self.assertRaises(BadTables) as caught:
                 Tables.open(*files)
-            self.assertEqual(f"version 0 {caught.exception}", told, name)
-            self.assertEqual(caught.exception.file, "folding")
+            self.assertEqual(f"version 0 {caught.exception}", f"{told}, in {str(files[2])!r}", name)
+            self.assertEqual((caught.exception.file, caught.exception.path), ("folding", files[2]))
             self.assertNotEqual(caught.exception.line is None, caught.exception.code is None)
 
     def test_a_large_folding_file_is_not_read_whole(self):

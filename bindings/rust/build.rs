@@ -12,10 +12,12 @@ fn folders() -> Vec<PathBuf> {
         return vec![library.join("x86_64-linux-gnu"), library];
     }
     let tree = PathBuf::from(env!("CARGO_MANIFEST_DIR")).join("../../out/c/lib");
-    let told = Command::new("pkg-config")
+    let output = Command::new("pkg-config")
         .args(["--variable=libdir", "npss"])
         .output();
-    let installed = told.ok().and_then(|told| String::from_utf8(told.stdout).ok());
+    let installed = output
+        .ok()
+        .and_then(|output| String::from_utf8(output.stdout).ok());
     let installed = installed.filter(|folder| !folder.trim().is_empty());
     std::iter::once(tree)
         .chain(installed.map(|folder| PathBuf::from(folder.trim())))

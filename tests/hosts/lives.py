@@ -77,16 +77,16 @@ def check_set_up(tally, machine):
     machine.types(f"mkdir -p {reader.folder}")
     reader.type(BEFORE[REGISTRY])
     one, over_redis, claim, service = [text for language, text in blocks(REGISTRY) if language == "sh"]
-    reader.judge(one, reader.type(one))
+    reader.check(one, reader.type(one))
     for text in (text for language, text in blocks(REGISTRY) if language == "console"):
         reader.console(text)
-    reader.judge(over_redis, reader.type(over_redis))
+    reader.check(over_redis, reader.type(over_redis))
     tally.same("the log over Redis has its first record", machine.types("redis-cli --raw exists names:0")[1].strip(), "1")
     machine.types("sudo rm -r /var/lib/npss-registry /etc/npss-registry")
     tally.same("the service is off where it isn't set up", active(machine)["ActiveState"], "inactive")
-    reader.judge(service, reader.type(service))
+    reader.check(service, reader.type(service))
     tally.same("the service answers", asked(machine, "/health"), "200")
-    reader.judge(claim, reader.type(claim))
+    reader.check(claim, reader.type(claim))
     tally.check("the claim of the page is registered", asked(machine, "/find", '{"name": "Zo\xeb"}') == "200")
 
 
@@ -114,7 +114,7 @@ def check_removal(tally, machine):
     tally.check("npss-registry is removed", status == 0, written[-2000:])
     tally.same("a removal stops the service", (active(machine)["ActiveState"], machine.types("! curl -s http://127.0.0.1:8765/health")[0]), ("inactive", 0))
     text = next(text for language, text in blocks("docs/INSTALL.md") if text.startswith(PURGE))
-    Reader(tally, machine, "docs/INSTALL.md", f"/{booted.HOME}").judge(text, machine.types(text))
+    Reader(tally, machine, "docs/INSTALL.md", f"/{booted.HOME}").check(text, machine.types(text))
     left = machine.run("sh", "-c", LEFT)[1].split()
     made = {"/etc/postgresql/15/main/conf.d/npss.conf", "/var/lib/npss-registry"}
     tally.same("what is left is what was made", sorted(set(left) - made), [])

@@ -74,7 +74,7 @@ class Reader:
         """What a block has to print at its end."""
         return next((printed for (page, begin), printed in PRINTED.items() if page == self.page and text.startswith(begin)), None)
 
-    def judge(self, text, answer):
+    def check(self, text, answer):
         """Counts a block by its status and by what it prints."""
         status, written = answer
         name = f"{self.page}: {text.partition(chr(10))[0]}"
@@ -96,35 +96,35 @@ class Reader:
     def sql(self, text):
         """Statements for SQLite begin by loading the extension, or stand behind such ones; all others are PostgreSQL's."""
         if text.startswith(".load"):
-            return self.judge(text, self.type("sqlite3 -bail accounts.db", text))
+            return self.check(text, self.type("sqlite3 -bail accounts.db", text))
         psql = f"sudo -u postgres psql -qAtv ON_ERROR_STOP=1 -d {self.database if self.page == 'README.md' else 'postgres'}"
-        return self.judge(text, self.type(psql, text))
+        return self.check(text, self.type(psql, text))
 
     def rust(self, text):
         """The page's program, in a crate of its own beside the library's."""
         toml = next(one for language, one in blocks(self.page) if language == "toml")
         self.put("page/Cargo.toml", f'[package]\nname = "page"\nversion = "0.1.0"\nedition = "2021"\n\n{toml.replace("../", "../../")}')
         self.put("page/src/main.rs", text)
-        self.judge(text, self.type("cargo run -q --offline --manifest-path page/Cargo.toml"))
+        self.check(text, self.type("cargo run -q --offline --manifest-path page/Cargo.toml"))
 
     def block(self, language, text):
         """Types a block, or runs it by what the page tells."""
         if language == "sh":
-            self.judge(text, self.type(text))
+            self.check(text, self.type(text))
         elif language == "console":
             self.console(text)
         elif language == "sql":
             self.sql(text)
         elif language == "python":
             self.put("page.py", text)
-            self.judge(text, self.type("python3 page.py"))
+            self.check(text, self.type("python3 page.py"))
         elif language == "rust":
             self.rust(text)
         elif language == "c":
             self.put("prog.c", text)
         elif language == "bash":
             self.put("both", text, "755")
-            self.judge(text, self.type("./both <names"))
+            self.check(text, self.type("./both <names"))
 
 
 def check_page(tally, machine, page, folder=None, left_out=()):

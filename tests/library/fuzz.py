@@ -4,7 +4,7 @@
 PREFIX is where ./build-c installed the library, that of this tree where none is named. In turn, each for N seconds (default
 20): libFuzzer over the calls, whose answers are held against ICU's; texts that are made to be hard, the same way; and
 libFuzzer over npss_open and npss_open_caseless, with small files and with edits of a fixture and of the published ones.
-Beside them folding files that were edited are opened, and held against the reader of tests/models/folding_judge.py. ICU and
+Beside them folding files that were edited are opened, and held against the reader of tests/models/folding_files.py. ICU and
 Debian's package unicode-data have to be of one version. What is found is written to out/fuzz, and its name is told. The
 seed is told, too. With --instrumented the library is first built once more, with its branches counted, which leads libFuzzer
 (tests/library/fuzz/instrumented.py).

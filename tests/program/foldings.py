@@ -2,7 +2,7 @@
 """Folding files that were cut, forged, swapped or are of another version: tests/program/foldings.py PROGRAM [--strings N] [--places N].
 
 PROGRAM is npss_caseless. The first fixture's file is cut at every byte, and every byte is replaced in turn; the published one is
-changed at N places drawn by a fixed seed. What the program says of each is compared with the reader of folding_judge.py. Then
+changed at N places drawn by a fixed seed. What the program says of each is compared with the reader of folding_files.py. Then
 the published files: bad ones in place of the third, versions cut by age from 5.0 on beside one another, the published 13.0 beside
 15.0 where Debian has it, and the keys of N strings beside ICU's folding between its forms. What can't be had is skipped, with the
 reason. Ends in a line 'N passed, M failed'.
@@ -27,7 +27,7 @@ import ucd
 from cases import BAD_TEXT
 from harness import FORMS, ROOT, Tally, install, run, shown
 from hostile import REPLACEMENTS, changed
-from models import folding_judge, judge
+from models import data_files, folding_files
 
 FIXTURE, FOLDINGS = ROOT / "fixtures" / "v1", ROOT / "fixtures" / "caseless" / "v1"
 SEED = 31
@@ -47,9 +47,9 @@ class Three:
     def __init__(self, data, exclusions, folding):
         self.files = [str(data), str(exclusions), str(folding)]
         self.folding = Path(folding).read_bytes()
-        self.version, told = judge.version_of(Path(data).read_bytes(), Path(exclusions).read_bytes())
-        self.lowercases = folding_judge.lowercases_of(Path(data).read_bytes()) if self.version else {}
-        self.decompositions, self.told = folding_judge.Decompositions(self.version), told
+        self.version, told = data_files.version_of(Path(data).read_bytes(), Path(exclusions).read_bytes())
+        self.lowercases = folding_files.lowercases_of(Path(data).read_bytes()) if self.version else {}
+        self.decompositions, self.told = folding_files.Decompositions(self.version), told
 
     def assigned(self):
         return [code for row in self.version.rows for code in range(row.first, row.last + 1)]
@@ -58,16 +58,16 @@ class Three:
         """The version with its folding, or with that of these bytes; or the line that the program says of it."""
         if self.version is None:
             return None, self.told
-        return folding_judge.folded_of(self.decompositions, self.lowercases, self.folding if folding is None else folding)
+        return folding_files.folded_of(self.decompositions, self.lowercases, self.folding if folding is None else folding)
 
     def foldings(self):
         """What folds, by the file, to what."""
-        return folding_judge.foldings_of(self.folding)[0]
+        return folding_files.foldings_of(self.folding)[0]
 
 
 def text_of(codes):
     """The code points that a text can hold, as one."""
-    return "".join(chr(code) for code in codes if not judge.is_surrogate(code))
+    return "".join(chr(code) for code in codes if not data_files.is_surrogate(code))
 
 
 def want_of(three, folding, text):
@@ -251,7 +251,7 @@ def pools(three):
     marks = [code for row in version.rows if row.combining for code in range(row.first, row.last + 1)]
     special = [0x345, 0x37A, 0x3B9, 0x399, 0x1FBE, 0x3B1, 0x301, 0x323, 0x49, 0x130, 0xDF, 0x1E9E, 0x3F9, 0xFF9E, 0xFF9F, 0x3099, 0xFF76,
                0x13A0, 0xAB70, 0x1C90, 0x10D0, 0xFB01, 0x2121, 0x1FB3, 0x1FB4, 0xAC00, 0x1100, 0x1161, 0x11A8]
-    scalars = [code for code in three.assigned() if not judge.is_surrogate(code) and code != 0x0A]
+    scalars = [code for code in three.assigned() if not data_files.is_surrogate(code) and code != 0x0A]
     return [special, special, sorted(foldings), marks, sorted(version.mapped), sorted({part for to in foldings.values() for part in to}), scalars]
 
 

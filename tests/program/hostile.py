@@ -4,7 +4,7 @@
 Over the first fixture both files are cut at every byte, and every byte is replaced in turn; with
 --published the published files are changed at N places drawn by a fixed seed (2,000 where N isn't
 told). For each changed version the program's status and line are compared with those of the reader
-in judge.py; and of the first fixture, where there is no fault, the breaks from and to the unchanged one.
+in data_files.py; and of the first fixture, where there is no fault, the breaks from and to the unchanged one.
 Ends in a line 'N passed, M failed'.
 """
 
@@ -17,7 +17,7 @@ from pathlib import Path
 sys.dont_write_bytecode = True
 sys.path.insert(0, str(Path(__file__).resolve().parent.parent))
 
-from models import judge
+from models import data_files
 import ucd
 from program.cases import BAD_TEXT, DIFFERENT
 from harness import ROOT, Tally, run
@@ -32,7 +32,7 @@ def check(tally, program, folder, name, data, exclusions):
     (folder / "data").write_bytes(data)
     (folder / "exclusions").write_bytes(exclusions)
     got = run(program, ["key", "--form", "nfc", "data", "exclusions"], folder=folder)
-    version, line = judge.version_of(data, exclusions)
+    version, line = data_files.version_of(data, exclusions)
     tally.same(name, got, (0 if version else BAD_TEXT, b"", line.encode()))
     return version
 
@@ -44,7 +44,7 @@ def check_rows(tally, program, folder, name, first, version):
     ways = [([*paths, "data", "exclusions"], first, version), (["data", "exclusions", *paths], version, first)]
     same = (version.rows, version.spans) == (first.rows, first.spans)
     for words, old, new in ways[:1] if same else ways:
-        breaks = judge.breaks_of(old, new)
+        breaks = data_files.breaks_of(old, new)
         wanted = (DIFFERENT, breaks.encode(), b"") if breaks else (0, b"extends\n", b"")
         tally.same(f"{name}, audit {words[0]}", run(program, ["audit", *words], folder=folder), wanted)
 
@@ -60,7 +60,7 @@ def changed(data):
 def check_fixture(tally, program, folder):
     """All changes of the first fixture: each is refused at its line, or has the rows that it says."""
     data, exclusions = ((FIXTURE / name).read_bytes() for name in (ucd.DATA, ucd.EXCLUSIONS))
-    first, _ = judge.version_of(data, exclusions)
+    first, _ = data_files.version_of(data, exclusions)
     files = [(f"data {name}", bad, exclusions) for name, bad in changed(data)]
     files += [(f"exclusions {name}", data, bad) for name, bad in changed(exclusions)]
     for name, *pair in files:

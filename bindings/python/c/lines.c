@@ -79,7 +79,7 @@ PyObject *tables_answers(PyObject *of, PyObject *const *given, Py_ssize_t count,
     tables *self = (tables *)of;
     maker maker = {ANSWERS, {0, 0}};
     answers made = {NULL, 0, 0, 0};
-    PyObject *taken[4], *told = NULL;
+    PyObject *taken[4], *written = NULL;
     int caseless;
     bytes lines;
     if (take(given, count, words, names, 1, taken) || form_of(self->state, taken[1], &maker.asked.form) ||
@@ -87,8 +87,8 @@ PyObject *tables_answers(PyObject *of, PyObject *const *given, Py_ssize_t count,
         return NULL;
     if (caseless) maker.what = CASELESS_ANSWERS;
     if (!answer_pieces(self, &maker, lines, &made))
-        told = PyBytes_FromStringAndSize((const char *)made.room, (Py_ssize_t)made.used);
+        written = PyBytes_FromStringAndSize((const char *)made.room, (Py_ssize_t)made.used);
     PyMem_Free(made.room);
     let_go(&lines);
-    return told;
+    return written;
 }

@@ -102,32 +102,32 @@ static void node_dealloc(PyObject *self) {
 
 /* Kept or known, which an answer tells. */
 static PyObject *accepted(node *self, npss_answer a, const uint8_t *text) {
-    PyObject *told;
+    PyObject *outcome;
     if (a.status != NPSS_DONE && a.status != NPSS_KNOWN) return refuse(self->state, a, text);
     self->changes += a.status == NPSS_DONE;
-    told = self->state->of[a.status == NPSS_DONE ? KEPT : KNOWN];
-    Py_INCREF(told);
-    return told;
+    outcome = self->state->of[a.status == NPSS_DONE ? KEPT : KNOWN];
+    Py_INCREF(outcome);
+    return outcome;
 }
 
 static PyObject *node_accept(PyObject *of, PyObject *given) {
     node *self = (node *)of;
-    PyObject *told;
+    PyObject *outcome;
     bytes string;
     if (string_of(given, &string)) return NULL;
-    told = accepted(self, npss_node_accept(&self->node, string.at, (size_t)string.length), string.at);
+    outcome = accepted(self, npss_node_accept(&self->node, string.at, (size_t)string.length), string.at);
     let_go(&string);
-    return told;
+    return outcome;
 }
 
 static PyObject *node_take(PyObject *of, PyObject *given) {
     node *self = (node *)of;
-    PyObject *told;
+    PyObject *outcome;
     bytes message;
     if (data_of(given, &message)) return NULL;
-    told = accepted(self, npss_node_take(&self->node, message.at, (size_t)message.length), message.at + MESSAGE_STRING);
+    outcome = accepted(self, npss_node_take(&self->node, message.at, (size_t)message.length), message.at + MESSAGE_STRING);
     let_go(&message);
-    return told;
+    return outcome;
 }
 
 static PyObject *node_forget(PyObject *of, PyObject *given) {
@@ -372,11 +372,11 @@ static PyObject *node_tables(PyObject *self, void *unused) {
 /* How many strings are kept, and none of them: they may be names of persons. */
 static PyObject *node_repr(PyObject *of) {
     node *self = (node *)of;
-    PyObject *form = form_name(self), *told;
+    PyObject *form = form_name(self), *text;
     if (!form) return NULL;
-    told = PyUnicode_FromFormat("<npss.Node: %zd strings, form %R, room %u>", node_length(of), form, self->room);
+    text = PyUnicode_FromFormat("<npss.Node: %zd strings, form %R, room %u>", node_length(of), form, self->room);
     Py_DECREF(form);
-    return told;
+    return text;
 }
 
 static PyMethodDef methods[] = {

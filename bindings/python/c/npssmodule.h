@@ -87,6 +87,8 @@ PyObject *refuse(const module_state *state, npss_answer a, const uint8_t *text);
 
 /* The same of an image; `image` has its bytes. */
 PyObject *refuse_image(const module_state *state, npss_answer a, const uint8_t *image);
+/* The same of files that make no version; which were named is told with their names. */
+PyObject *refuse_files(const module_state *state, npss_answer a, PyObject *const *files);
 
 /* The first break, which an answer tells. */
 PyObject *break_of(const module_state *state, npss_answer a);

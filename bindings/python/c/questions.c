@@ -1,8 +1,8 @@
 /* Questions on texts and versions. */
 #include "tables.h"
 
-/* The answer to a question; -1 where an error was raised. */
-static int told(const module_state *state, npss_answer a) {
+/* Whether an answer says yes; -1 where an error was raised. */
+static int truth_of(const module_state *state, npss_answer a) {
     if (a.status == NPSS_DONE || a.status == NPSS_DIFFERENT) return a.status == NPSS_DONE;
     refuse(state, a, NULL);
     return -1;
@@ -28,7 +28,7 @@ PyObject *tables_is_normalized(PyObject *of, PyObject *const *given, Py_ssize_t 
         npss_close(&own);
         Py_END_ALLOW_THREADS
     }
-    return (yes = told(self->state, a)) < 0 ? NULL : PyBool_FromLong(yes);
+    return (yes = truth_of(self->state, a)) < 0 ? NULL : PyBool_FromLong(yes);
 }
 
 /* A question on two texts. */
@@ -54,7 +54,7 @@ static PyObject *compare(PyObject *of, question *ask, PyObject *const *given, Py
         npss_close(&own);
         Py_END_ALLOW_THREADS
     }
-    return (yes = told(self->state, a)) < 0 ? NULL : PyBool_FromLong(yes);
+    return (yes = truth_of(self->state, a)) < 0 ? NULL : PyBool_FromLong(yes);
 }
 
 PyObject *tables_equivalent(PyObject *of, PyObject *const *given, Py_ssize_t count, PyObject *words) {
@@ -91,7 +91,7 @@ static int extension(PyObject *of, PyObject *const *given, Py_ssize_t count, PyO
         return -1;
     }
     *a = extension_of((tables *)taken[0], self, caseless ? npss_caseless_extends : npss_extends);
-    return told(self->state, *a);
+    return truth_of(self->state, *a);
 }
 
 PyObject *tables_extends(PyObject *self, PyObject *const *given, Py_ssize_t count, PyObject *words) {

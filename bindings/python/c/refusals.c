@@ -10,24 +10,35 @@ static Py_ssize_t index_at(const uint8_t *text, uint64_t place) {
 
 static const char *const file_names[] = {"data", "exclusions", "folding"};
 
-/* The fault of a file at its line. */
-static PyObject *bad_line(const module_state *state, npss_answer a) {
-    const int number = a.status == NPSS_FOLDING ? 2 : a.status == NPSS_EXCLUSIONS;
-    return PyObject_CallFunction(state->of[BAD_TABLES], "sKs", file_names[number], (unsigned long long)a.place,
-                                 npss_fault_name(a.status, a.fault).text);
+/* Which file an answer refuses, from 0; -1 where it refuses what the first two make together, or none. */
+static int refused_file(npss_answer a) {
+    switch (a.status) {
+    case NPSS_DATA:
+        return 0;
+    case NPSS_EXCLUSIONS:
+        return 1;
+    case NPSS_FOLDING:
+    case NPSS_FOLDINGS:
+        return 2;
+    case NPSS_TOO_LARGE:
+        return (int)a.fault - 1;
+    default:
+        return -1;
+    }
 }
 
 static PyObject *bad_tables(const module_state *state, npss_answer a) {
     PyObject *class = state->of[BAD_TABLES];
+    const int number = refused_file(a);
+    const char *file = number < 0 ? "tables" : file_names[number];
     switch (a.status) {
     case NPSS_TABLES:
     case NPSS_FOLDINGS:
-        return PyObject_CallFunction(class, "sOsI", a.status == NPSS_TABLES ? "tables" : "folding", Py_None,
-                                     npss_fault_name(a.status, a.fault).text, a.code);
+        return PyObject_CallFunction(class, "sOsI", file, Py_None, npss_fault_name(a.status, a.fault).text, a.code);
     case NPSS_TOO_LARGE:
-        return PyObject_CallFunction(class, "sOs", file_names[a.fault - 1], Py_None, npss_status_name(a.status).text);
+        return PyObject_CallFunction(class, "sOs", file, Py_None, npss_status_name(a.status).text);
     default:
-        return bad_line(state, a);
+        return PyObject_CallFunction(class, "sKs", file, (unsigned long long)a.place, npss_fault_name(a.status, a.fault).text);
     }
 }
 
@@ -86,6 +97,15 @@ static PyObject *raise(PyObject *error) {
 
 PyObject *refuse(const module_state *state, npss_answer a, const uint8_t *text) {
     return raise(refusal(state, a, text));
+}
+
+PyObject *refuse_files(const module_state *state, npss_answer a, PyObject *const *files) {
+    const int number = refused_file(a);
+    PyObject *file = number < 0 ? NULL : files[number], *error;
+    const int is_path = file && (PyUnicode_Check(file) || PyObject_HasAttrString(file, "__fspath__"));
+    error = refusal(state, a, NULL);
+    if (error && is_path && PyObject_SetAttrString(error, "path", file)) Py_CLEAR(error);
+    return raise(error);
 }
 
 /* Behind a length and what it counts. The library has told that they are there. */

@@ -110,18 +110,18 @@ static PyObject *tables_normalize(PyObject *self, PyObject *const *given, Py_ssi
 
 /* Tells in an Unassigned which of several texts it is of, from 0. */
 static void add_number(const module_state *state, Py_ssize_t number) {
-    PyObject *class, *error, *trace, *told;
+    PyObject *class, *error, *trace, *value;
     if (!PyErr_ExceptionMatches(state->of[UNASSIGNED])) return;
     PyErr_Fetch(&class, &error, &trace);
     PyErr_NormalizeException(&class, &error, &trace);
-    if ((told = PyLong_FromSsize_t(number)) && !PyObject_SetAttrString(error, "number", told)) {
+    if ((value = PyLong_FromSsize_t(number)) && !PyObject_SetAttrString(error, "number", value)) {
         PyErr_Restore(class, error, trace);
     } else {
         Py_XDECREF(class);
         Py_XDECREF(error);
         Py_XDECREF(trace);
     }
-    Py_XDECREF(told);
+    Py_XDECREF(value);
 }
 
 static PyObject *tables_keys(PyObject *of, PyObject *const *given, Py_ssize_t count, PyObject *words) {
@@ -217,7 +217,7 @@ static PyObject *tables_open(PyObject *class, PyObject *const *given, Py_ssize_t
         made->state = state;
         a = open_files(&made->handle, files);
         if (a.status != NPSS_DONE) {
-            refuse(state, a, NULL);
+            refuse_files(state, a, taken);
             Py_CLEAR(made);
         } else {
             ask_once(made);

@@ -16,15 +16,15 @@ use std::ops::Deref;
 /// ```
 #[derive(Clone, Copy, PartialEq, Eq)]
 pub struct Name {
-    told: raw::Name,
+    padded: raw::Name,
 }
 
 impl Name {
     /// The name of the fault that an answer tells.
     pub(crate) fn of_fault(status: u32, fault: u32) -> Name {
         // SAFETY: the call takes numbers alone.
-        let told = unsafe { raw::npss_fault_name(status, fault) };
-        Name { told }
+        let padded = unsafe { raw::npss_fault_name(status, fault) };
+        Name { padded }
     }
 }
 
@@ -32,7 +32,7 @@ impl Deref for Name {
     type Target = str;
 
     fn deref(&self) -> &str {
-        let text = &self.told.text;
+        let text = &self.padded.text;
         let end = text.iter().position(|byte| *byte == 0);
         std::str::from_utf8(&text[..end.unwrap_or(text.len())]).unwrap_or("")
     }

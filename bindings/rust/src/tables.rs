@@ -271,7 +271,7 @@ impl Tables {
     /// `Memory` where memory ran out.
     pub fn is_normalized(&self, form: Form, text: &str) -> Result<bool, Memory> {
         // SAFETY: the text is readable.
-        told(self.pool.call(|handle| unsafe {
+        truth_of(self.pool.call(|handle| unsafe {
             raw::npss_is_form(handle, form.letter(), text.as_ptr(), text.len())
         }))
     }
@@ -306,7 +306,7 @@ impl Tables {
     /// ```
     pub fn equivalent(&self, left: &str, right: &str, compatible: bool) -> Result<bool, Memory> {
         // SAFETY: the texts are readable.
-        told(self.pool.call(|handle| unsafe {
+        truth_of(self.pool.call(|handle| unsafe {
             raw::npss_equivalent(
                 handle,
                 compatible,
@@ -341,7 +341,7 @@ impl Tables {
                 right.len(),
             )
         });
-        told(a).map_err(|_| CaselessError::of(a))
+        truth_of(a).map_err(|_| CaselessError::of(a))
     }
 
     /// What this version breaks of an older one at the least code point. `None` where it extends the older one, so
@@ -465,8 +465,8 @@ impl Tables {
     }
 }
 
-/// The answer to a question.
-fn told(a: Answer) -> Result<bool, Memory> {
+/// Whether an answer says yes.
+fn truth_of(a: Answer) -> Result<bool, Memory> {
     match a.status {
         raw::DONE => Ok(true),
         raw::DIFFERENT => Ok(false),

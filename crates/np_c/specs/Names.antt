@@ -23,8 +23,8 @@ pub record IsPadded (name : List ℕ) (a : Name) : Type 0 where
   pub text : a.text ≡ name ++ replicate (32 - length name) 0
 
 -- a name with this property is what is answered
-abbrev pub Tells : (List ℕ → Type 0) → Name → Type 0
-Tells Is a = (name : List ℕ) × Is name × IsPadded name a
+abbrev pub AnswersName : (List ℕ → Type 0) → Name → Type 0
+AnswersName Is a = (name : List ℕ) × Is name × IsPadded name a
 
 -- the name of what has the number; none where nothing has it
 abbrev pub IsNameOf : (T : Type 0) → (T → ℕ → Type 0) → (T → List ℕ) → ℕ → List ℕ → Type 0

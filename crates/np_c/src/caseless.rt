@@ -7,7 +7,7 @@ ghost use Rattle.np_c.specs.Texts.{IsNoKey};
 ghost use Rattle.np_code_points.specs.declared.forms.Form.{Form};
 
 use crate::answers::{Answer, DONE, MEMORY, NO_FORM, UNASSIGNED};
-use crate::comparing::told;
+use crate::comparing::answer_of_truth;
 use crate::room::put;
 use crate::texts::{form_in, text_in};
 use np_caseless::{FoldedTable, caseless_match, fold_into};
@@ -119,7 +119,7 @@ pub fn tell_match<T: NormTable + Drop>(
         compat,
         (first, second),
     ) {
-        Ok(yes) => told(yes),
+        Ok(yes) => answer_of_truth(yes),
         Err(_) => Answer::of(MEMORY),
     }
 }

@@ -12,8 +12,8 @@ use np_forms::{equivalent, is_form};
 use np_versions::{NormTable, Version};
 use std::alloc::Global;
 
-/// The answer to a question.
-pub fn told(yes: bool) -> Answer
+/// The answer that says yes or no.
+pub fn answer_of_truth(yes: bool) -> Answer
     ensures { result ≡ told_answer yes }
 {
     if yes {
@@ -35,7 +35,7 @@ pub fn tell_form<T: NormTable>(alloc: Global, table: &T, letter: u8, bytes: &[u8
         Err(answer) => return answer,
     };
     match is_form(alloc, table, form, text) {
-        Ok(yes) => told(yes),
+        Ok(yes) => answer_of_truth(yes),
         Err(_) => Answer::of(MEMORY),
     }
 }
@@ -49,7 +49,7 @@ pub fn tell_ascii<T: NormTable>(table: &T, letter: u8) -> Answer
     };
     table.meets_conditions();
     np_forms::laws::told();
-    told(table.ascii_passes(form))
+    answer_of_truth(table.ascii_passes(form))
 }
 
 /// Whether two texts are equivalent: compatible where `compat`, else canonical equivalents.
@@ -71,7 +71,7 @@ pub fn tell_equivalent<T: NormTable>(
         Err(answer) => return answer,
     };
     match equivalent(alloc, table, compat, first, second) {
-        Ok(yes) => told(yes),
+        Ok(yes) => answer_of_truth(yes),
         Err(_) => Answer::of(MEMORY),
     }
 }

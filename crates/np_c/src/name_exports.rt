@@ -1,5 +1,5 @@
 //! The functions that C calls to ask for names. They take no handle, and nothing is refused.
-ghost use Rattle.np_c.specs.Names.{IsBreakName, IsFaultName, IsFormName, IsPadded, Tells, name_of_status};
+ghost use Rattle.np_c.specs.Names.{IsBreakName, IsFaultName, IsFormName, IsPadded, AnswersName, name_of_status};
 
 use crate::names::{Name, break_name, fault_name, form_name, status_name};
 
@@ -15,7 +15,7 @@ pub extern "C" fn npss_status_name(status: u32) -> Name
 /// status tell no fault.
 #[unsafe(no_mangle)]
 pub extern "C" fn npss_fault_name(status: u32, fault: u32) -> Name
-    ensures { Tells (IsFaultName status fault) result }
+    ensures { AnswersName (IsFaultName status fault) result }
 {
     Name::of(fault_name(status, fault))
 }
@@ -23,7 +23,7 @@ pub extern "C" fn npss_fault_name(status: u32, fault: u32) -> Name
 /// The name of what a newer version breaks; empty where the number is no kind's.
 #[unsafe(no_mangle)]
 pub extern "C" fn npss_break_name(kind: u32) -> Name
-    ensures { Tells (IsBreakName kind) result }
+    ensures { AnswersName (IsBreakName kind) result }
 {
     Name::of(break_name(kind))
 }
@@ -31,7 +31,7 @@ pub extern "C" fn npss_break_name(kind: u32) -> Name
 /// The name of a form, as the programs take it; empty where the letter is none's.
 #[unsafe(no_mangle)]
 pub extern "C" fn npss_form_name(form: u8) -> Name
-    ensures { Tells (IsFormName form) result }
+    ensures { AnswersName (IsFormName form) result }
 {
     Name::of(form_name(form))
 }

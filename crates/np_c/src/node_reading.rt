@@ -6,7 +6,7 @@ ghost use Rattle.np_node.specs.Nodes.{state_of, IsKept, IsNode};
 ghost use Rattle.np_versions.specs.Counts.{assigned_count};
 
 use crate::answers::{Answer, DONE, NOT_KEPT};
-use crate::comparing::told;
+use crate::comparing::answer_of_truth;
 use crate::kept_node::{KeptNode, no_entries};
 use crate::room::{put, put_both};
 use crate::texts::whole_text;
@@ -57,7 +57,7 @@ fn tell_same<T: NormTable>(node: &Node<'_, T>, left: &[u8], right: &[u8]) -> Ans
         return tell_lack(node, first);
     };
     match node.same(first, second) {
-        Some(equal) => told(equal),
+        Some(equal) => answer_of_truth(equal),
         None => tell_lack(node, first),
     }
 }

@@ -6,7 +6,8 @@ use Rattle.np_ucd.specs.Faults.{line_of}
 use Rattle.np_ucd.specs.FirstFaults.{IsFirstFault}
 use Rattle.np_ucd.specs.Reading.{IsRefused}
 use Rattle.np_ucd.specs.declared.faults.UcdFault.{UcdFault}
-use Rattle.np_ucd.specs.declared.faults.UcdFault.TheVariants.{FieldCount, BadCode, OutOfOrder, BadCategory, BadClass, BadMapping, RangeOpen, RangeLone, RangeDiffers, RangeMaps, TooLarge, ReadFailed, Memory}
+use Rattle.np_ucd.specs.declared.faults.UcdFault.TheVariants.{FieldCount, BadCode, OutOfOrder, BadCategory, BadClass, BadMapping, RangeOpen, RangeLone}
+use Rattle.np_ucd.specs.declared.faults.UcdFault.TheVariants.{RangeDiffers, RangeMaps, TooLarge, ReadFailed, Memory}
 use Rattle.np_jobs.proofs.EndLemmas.{same_stream, untouched}
 use Rattle.np_jobs.specs.Streams.{Stream, WasRead, stream_of}
 use Rattle.np_jobs.specs.Versions.{WasRefused}
@@ -18,7 +19,8 @@ use Rattle.np_caseless_job.specs.inside.PairSteps.{AreCleared}
 -- ---- the bytes of a data file
 
 -- a fault that has a line, of bytes that were read whole
-pub is_first : (bytes : List ℕ) (after : Option (List ℕ)) (fault : UcdFault) → is_some (line_of fault) ≡ true → IsRefused IsFirstFault (Some bytes) after fault → IsFirstFault bytes fault
+pub is_first : (bytes : List ℕ) (after : Option (List ℕ)) (fault : UcdFault) → is_some (line_of fault) ≡ true
+    → IsRefused IsFirstFault (Some bytes) after fault → IsFirstFault bytes fault
 is_first bytes after (FieldCount line) lined h = subst (λ (bs : List ℕ). IsFirstFault bs (FieldCount line)) h.1.whole h.2
 is_first bytes after (BadCode line) lined h = subst (λ (bs : List ℕ). IsFirstFault bs (BadCode line)) h.1.whole h.2
 is_first bytes after (OutOfOrder line) lined h = subst (λ (bs : List ℕ). IsFirstFault bs (OutOfOrder line)) h.1.whole h.2
@@ -36,7 +38,8 @@ is_first bytes after Memory lined h = absurd (cc)
 pub has_line : (fault : UcdFault) (line : ℕ) → Some line ≡ line_of fault → is_some (line_of fault) ≡ true
 has_line fault line is = ap is_some (sym is)
 
-refused_by : (before after : Option (List ℕ)) (bytes : List ℕ) (fault : UcdFault) → IsReadWhole before after bytes → is_some (line_of fault) ≡ true → IsFirstFault bytes fault → IsRefused IsFirstFault before after fault
+refused_by : (before after : Option (List ℕ)) (bytes : List ℕ) (fault : UcdFault) → IsReadWhole before after bytes → is_some (line_of fault) ≡ true
+    → IsFirstFault bytes fault → IsRefused IsFirstFault before after fault
 refused_by before after bytes (FieldCount line) whole lined is = (bytes, whole, is)
 refused_by before after bytes (BadCode line) whole lined is = (bytes, whole, is)
 refused_by before after bytes (OutOfOrder line) whole lined is = (bytes, whole, is)
@@ -63,20 +66,34 @@ pub refused_bytes : (file : Stream) (bytes : List ℕ) (fault : UcdFault) → Wa
 refused_bytes file bytes fault was is = elim is [
   | inl memory ↦
       let size : length bytes ≤ 16777217 = omega (arith, was.read.size) in
-      subst (WasRefused IsFirstFault file) (sym memory) (record { how = (bytes, size, was.read.taken); failed = never Memory file was.clear (λ e. absurd (cc)) })
-  | inr (first, lined) ↦ record { how = refused_by file.before file.after bytes fault was.read lined first; failed = never fault file was.clear (has_no_line fault lined) }
+      subst (WasRefused IsFirstFault file) (sym memory)
+      (record { how = (bytes, size, was.read.taken); failed = never Memory file was.clear (λ e. absurd (cc)) })
+  | inr (first, lined) ↦ record {
+    how = refused_by file.before file.after bytes fault was.read lined first;
+    failed = never fault file was.clear (has_no_line fault lined);
+  }
 ]
 
 -- ---- files whose marks were taken away
 
-pub same_readers : {D : Type 0} (tells : D → Option (List ℕ)) (old mid new : OpenFiles D) → AreCleared old mid → folded_readers_of tells mid new ≡ folded_readers_of tells old new
+pub same_readers : {D : Type 0} (tells : D → Option (List ℕ)) (old mid new : OpenFiles D) → AreCleared old mid
+    → folded_readers_of tells mid new ≡ folded_readers_of tells old new
 same_readers tells old mid new cleared =
     let data_file = same_stream tells mid.data_file old.data_file new.data_file cleared.data_file.0 in
     let exclusions_file = same_stream tells mid.exclusions_file old.exclusions_file new.exclusions_file cleared.exclusions_file.0 in
     let folding_file = same_stream tells mid.folding_file old.folding_file new.folding_file cleared.folding_file.0 in
-    ap (λ (s : Stream). record { version = record { data_file = s; exclusions_file = stream_of tells mid.exclusions_file new.exclusions_file }; folding_file = stream_of tells mid.folding_file new.folding_file }) data_file
-    ∙ ap (λ (s : Stream). record { version = record { data_file = stream_of tells old.data_file new.data_file; exclusions_file = s }; folding_file = stream_of tells mid.folding_file new.folding_file }) exclusions_file
-    ∙ ap (λ (s : Stream). record { version = record { data_file = stream_of tells old.data_file new.data_file; exclusions_file = stream_of tells old.exclusions_file new.exclusions_file }; folding_file = s }) folding_file
+    ap (λ (s : Stream). record {
+      version = record { data_file = s; exclusions_file = stream_of tells mid.exclusions_file new.exclusions_file };
+      folding_file = stream_of tells mid.folding_file new.folding_file;
+    }) data_file
+    ∙ ap (λ (s : Stream). record {
+      version = record { data_file = stream_of tells old.data_file new.data_file; exclusions_file = s };
+      folding_file = stream_of tells mid.folding_file new.folding_file;
+    }) exclusions_file
+    ∙ ap (λ (s : Stream). record {
+      version = record { data_file = stream_of tells old.data_file new.data_file; exclusions_file = stream_of tells old.exclusions_file new.exclusions_file };
+      folding_file = s;
+    }) folding_file
 
 pub unread : {D : Type 0} (tells : D → Option (List ℕ)) (old new : OpenFiles D) → AreCleared old new → AreUnread (folded_readers_of tells old new)
 unread tells old new cleared = (

@@ -6,7 +6,8 @@ use Rattle.np_foldings.specs.declared.faults.FoldingFault.{FoldingFault}
 use Rattle.np_jobs.specs.Tellings.{line_head, version_head}
 use Rattle.np_caseless_job.specs.Tellings.{folding_line}
 
-behind_head : (version : ℕ) (rest : List ℕ) → version_head version (codes "folding") ++ rest ≡ codes "version " ++ (decimal version ++ (codes " folding: " ++ rest))
+behind_head : (version : ℕ) (rest : List ℕ)
+    → version_head version (codes "folding") ++ rest ≡ codes "version " ++ (decimal version ++ (codes " folding: " ++ rest))
 behind_head version rest = ap (λ l. codes "version " ++ l) (append_assoc (decimal version) (codes " folding: ") rest)
 
 pub with_line : (version line : ℕ) (name : List ℕ) (fault : FoldingFault) → Some line ≡ line_of fault → name ≡ name_of fault

@@ -8,7 +8,7 @@ use crate::faults::CaselessFault;
 use crate::pairs::{OpenPair, read_pair};
 use np_caseless::{FoldedBreak, FoldedTable, audit};
 use np_code_points::Memory;
-use np_jobs::{JobTable, Made, MadeTable, Streams, finish, write_kind};
+use np_jobs::{JobOutput, JobTable, MadeTable, Streams, finish, write_kind};
 use np_versions::NormTable;
 use std::alloc::Global;
 use std::io::{Read, Write};
@@ -32,12 +32,12 @@ fn make_audit<T: NormTable + Drop>(
     alloc: Global,
     old: &FoldedTable<T>,
     new: &FoldedTable<T>,
-) -> Result<Made, Memory>
+) -> Result<JobOutput, Memory>
     ensures { IfOk result (λ m. IsFoldedAudit old.now new.now m.is_yes (string_bytes m.text)) }
 {
     let breaks = audit(alloc, old, new)?;
     let text = lines_of(alloc, breaks.as_slice())?;
-    Ok(Made {
+    Ok(JobOutput {
         text,
         is_yes: breaks.is_empty(),
     })
@@ -47,7 +47,7 @@ fn make_audit<T: NormTable + Drop>(
 fn made_of_pair<T: MadeTable, F: Read>(
     alloc: Global,
     pair: &mut OpenPair<F>,
-) -> Result<Made, CaselessFault>
+) -> Result<JobOutput, CaselessFault>
     ensures made { IfOk result (λ m. MakesFoldedAudit (record {
       first = folded_readers_of F.remaining pair.old.first pair.new.first;
       second = folded_readers_of F.remaining pair.old.second pair.new.second;

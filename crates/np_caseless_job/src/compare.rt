@@ -6,7 +6,7 @@ ghost use Rattle.np_jobs.specs.Comparisons.{LacksComparison};
 use crate::texts::FoldedMaker;
 use np_caseless::{FoldedTable, caseless_match};
 use np_code_points::Form;
-use np_jobs::{Made, TextFault, answer_line, both_assigned, two_lines};
+use np_jobs::{JobOutput, TextFault, answer_line, both_assigned, two_lines};
 use np_versions::NormTable;
 use std::alloc::Global;
 
@@ -51,13 +51,13 @@ impl FoldedMaker for CompareJob {
         alloc: Global,
         table: &FoldedTable<T>,
         text: &str,
-    ) -> Result<Made, TextFault> {
+    ) -> Result<JobOutput, TextFault> {
         let Some((first, second)) = two_lines(text) else {
             return Err(TextFault::TwoLinesWanted);
         };
         let is_yes = comparison_of(alloc, self.form, table, first, second)?;
         match answer_line(alloc, is_yes) {
-            Ok(text) => Ok(Made { text, is_yes }),
+            Ok(text) => Ok(JobOutput { text, is_yes }),
             Err(_) => Err(TextFault::Memory),
         }
     }

@@ -7,7 +7,7 @@ use crate::texts::FoldedMaker;
 use np_caseless::{FoldedTable, caseless_key};
 use np_code_points::Form;
 use np_forms::NpssFault;
-use np_jobs::{Made, TextFault};
+use np_jobs::{JobOutput, TextFault};
 use np_versions::NormTable;
 use std::alloc::Global;
 
@@ -46,8 +46,8 @@ impl FoldedMaker for KeyJob {
         alloc: Global,
         table: &FoldedTable<T>,
         text: &str,
-    ) -> Result<Made, TextFault> {
+    ) -> Result<JobOutput, TextFault> {
         let text = key_of(alloc, self.form, table, text)?;
-        Ok(Made { text, is_yes: true })
+        Ok(JobOutput { text, is_yes: true })
     }
 }

@@ -15,7 +15,7 @@ use crate::pairs::{OpenPair, read_pair};
 use np_caseless::{FoldedTable, extends};
 use np_code_points::Form;
 use np_code_points::watched::Watched;
-use np_jobs::{JobTable, Made, MadeTable, Streams, TextFault, finish, own_line, read_text};
+use np_jobs::{JobOutput, JobTable, MadeTable, Streams, TextFault, finish, own_line, read_text};
 use np_versions::NormTable;
 use std::alloc::Global;
 use std::io::{Read, Write};
@@ -27,14 +27,14 @@ fn make_own<T: NormTable + Drop>(
     old: &FoldedTable<T>,
     new: &FoldedTable<T>,
     text: &str,
-) -> Result<Made, TextFault>
+) -> Result<JobOutput, TextFault>
     requires leaves { LeavesKeys old.now new.now }
     ensures own { IfOk result (λ m. IsCaselessUnder form old.now new.now text.now m.is_yes (string_bytes m.text)) }
     ensures refused { IfErr result (LacksCaselessOutput new.now text.now) }
 {
     let key = key_of(alloc, form, new, text)?;
     match own_line(alloc, old.table().version(), key.as_str()) {
-        Ok(text) => Ok(Made { text, is_yes: true }),
+        Ok(text) => Ok(JobOutput { text, is_yes: true }),
         Err(_) => Err(TextFault::Memory),
     }
 }
@@ -46,7 +46,7 @@ fn made_of_input<T: MadeTable, I: Read>(
     old: &FoldedTable<T>,
     new: &FoldedTable<T>,
     input: &mut Watched<I>,
-) -> Result<Made, TextFault>
+) -> Result<JobOutput, TextFault>
     requires leaves { LeavesKeys old.now new.now }
     ensures made { IfOk result (λ m. IsMadeOfText (IsCaselessUnder form old.now new.now) (stream_of I.remaining input.old input.new)
         m.is_yes (string_bytes m.text)) }
@@ -63,7 +63,7 @@ fn made_of_tables<T: MadeTable, I: Read>(
     old: &FoldedTable<T>,
     new: &FoldedTable<T>,
     input: &mut Watched<I>,
-) -> Result<Made, CaselessFault>
+) -> Result<JobOutput, CaselessFault>
     requires clear { has_failed input.old ≡ false }
     ensures made { IfOk result (MakesOfInput form old.now new.now (stream_of I.remaining input.old input.new)) }
     ensures refused { IfErr result (RefusesInput old.now new.now (stream_of I.remaining input.old input.new)) }
@@ -80,7 +80,7 @@ fn made_of_pair<T: MadeTable, F: Read, I: Read>(
     form: Form,
     pair: &mut OpenPair<F>,
     input: &mut Watched<I>,
-) -> Result<Made, CaselessFault>
+) -> Result<JobOutput, CaselessFault>
     ensures made { IfOk result (λ m. MakesCaselessUnder form (record {
       pair = record {
         first = folded_readers_of F.remaining pair.old.first pair.new.first;

@@ -1,5 +1,5 @@
 //! The program `npss_caseless`: what it does for its words, over any opener of files and any streams.
-ghost use Rattle.std.specs.Prelude.{◌≡◌, ◌++◌, map, string_bytes, Some, None, IfOk, IfErr};
+ghost use Rattle.std.specs.Prelude.{◌≡◌, ◌++◌, map, string_bytes, Some, None};
 ghost use Rattle.np_caseless_job.specs.CaselessAudits.{FoldedAuditEnds};
 ghost use Rattle.np_caseless_job.specs.CaselessKeysUnder.{CaselessUnderEnds, FoldedUnderReaders};
 ghost use Rattle.np_caseless_job.specs.AskedWords.{asked_of, files_named, words_asked};
@@ -7,6 +7,7 @@ ghost use Rattle.np_caseless_job.specs.CaselessProgram.{EndsOverFiles, JobEndsOv
 ghost use Rattle.np_caseless_job.specs.Pairs.{ArePair, PairReaders};
 ghost use Rattle.np_caseless_job.specs.Usage.{caseless_usage};
 ghost use Rattle.np_jobs.specs.Opening.{IsUnopened};
+ghost use Rattle.np_jobs.specs.Programs.{EndsOrIsUnopened};
 ghost use Rattle.np_jobs.specs.Streams.{stream_of};
 ghost use Rattle.np_words.specs.CaselessWords.{caseless_asked_of, folded_names_of};
 
@@ -21,84 +22,76 @@ use crate::words::{CaselessAsked, parse_words};
 use np_code_points::Form;
 use np_code_points::watched::Watched;
 use np_habits::{KnownWords, refusal_line, refused_in};
-use np_jobs::{Opener, Program, Resources, Streams, run_program, show_usage, tell};
+use np_jobs::{Opener, Program, Resources, Streams, parse_and_run, show_usage, tell};
 use np_words::{CaselessJob, FoldedFiles, WordsFault};
 use std::alloc::Global;
 use std::io::{Read, Write};
 
-/// Runs `audit`.
-///
-/// # Errors
-///
-/// The status that was told, where a file can't be opened.
+/// Opens the files of `audit` and runs it, or tells which of them can't be opened. Answers the status.
 fn run_audit<P: Opener, I: Read, O: Write, E: Write>(
     with: &Resources<'_, P>,
     old: &FoldedFiles,
     new: &FoldedFiles,
     streams: &mut Streams<I, O, E>,
-) -> Result<u8, u8>
-    ensures done { IfOk result (λ status. (readers : PairReaders) × ArePair (P.gives with.now.opener.now) old.now new.now readers
+) -> u8
+    ensures ends { EndsOrIsUnopened
+        ((readers : PairReaders) × ArePair (P.gives with.now.opener.now) old.now new.now readers
         × FoldedAuditEnds readers (stream_of O.contents streams.old.output streams.new.output)
-        (stream_of E.contents streams.old.error streams.new.error) status) }
-    ensures unopened { IfErr result (IsUnopened (P.gives with.now.opener.now) (P.lacks with.now.opener.now)
-        (folded_names_of old.now ++ folded_names_of new.now) (stream_of E.contents streams.old.error streams.new.error)) }
+        (stream_of E.contents streams.old.error streams.new.error) result)
+        (IsUnopened (P.gives with.now.opener.now) (P.lacks with.now.opener.now) (folded_names_of old.now ++ folded_names_of new.now)
+        (stream_of E.contents streams.old.error streams.new.error) result)
+        streams.old streams.new }
     ensures unread { streams.new.input ≡ streams.old.input }
-    ensures unwritten { IfErr result (λ status. streams.new.output ≡ streams.old.output) }
 {
-    let mut pair = open_pair(with.opener, with.alloc, &mut streams.error, old, new)?;
-    Ok(audit_job(with.alloc, &mut pair, streams))
+    match open_pair(with.opener, with.alloc, &mut streams.error, old, new) {
+        Ok(mut pair) => audit_job(with.alloc, &mut pair, streams),
+        Err(status) => status,
+    }
 }
 
-/// Runs `key` with `--check-under`.
-///
-/// # Errors
-///
-/// The status that was told, where a file can't be opened.
+/// Opens the files of `key` with `--check-under` and runs it, or tells which of them can't be opened. Answers the status.
 fn run_key_under<P: Opener, I: Read, O: Write, E: Write>(
     with: &Resources<'_, P>,
     form: Form,
     old: &FoldedFiles,
     new: &FoldedFiles,
     streams: &mut Streams<I, O, E>,
-) -> Result<u8, u8>
-    ensures done { IfOk result (λ status. (readers : FoldedUnderReaders) × ArePair (P.gives with.now.opener.now) old.now new.now readers.pair
+) -> u8
+    ensures { EndsOrIsUnopened
+        ((readers : FoldedUnderReaders) × ArePair (P.gives with.now.opener.now) old.now new.now readers.pair
         × (readers.input ≡ stream_of I.remaining streams.old.input streams.new.input)
         × CaselessUnderEnds form readers (stream_of O.contents streams.old.output streams.new.output)
-        (stream_of E.contents streams.old.error streams.new.error) status) }
-    ensures unopened { IfErr result (IsUnopened (P.gives with.now.opener.now) (P.lacks with.now.opener.now)
-        (folded_names_of old.now ++ folded_names_of new.now) (stream_of E.contents streams.old.error streams.new.error)) }
-    ensures unread { IfErr result (λ status. streams.new.input ≡ streams.old.input) }
-    ensures unwritten { IfErr result (λ status. streams.new.output ≡ streams.old.output) }
+        (stream_of E.contents streams.old.error streams.new.error) result)
+        (IsUnopened (P.gives with.now.opener.now) (P.lacks with.now.opener.now) (folded_names_of old.now ++ folded_names_of new.now)
+        (stream_of E.contents streams.old.error streams.new.error) result)
+        streams.old streams.new }
 {
-    let mut pair = open_pair(with.opener, with.alloc, &mut streams.error, old, new)?;
-    Ok(key_under_job(with.alloc, form, &mut pair, streams))
+    match open_pair(with.opener, with.alloc, &mut streams.error, old, new) {
+        Ok(mut pair) => key_under_job(with.alloc, form, &mut pair, streams),
+        Err(status) => status,
+    }
 }
 
-/// Does a job.
-///
-/// # Errors
-///
-/// The status that was told, where a file can't be opened.
+/// Opens the files of a job and does it, or tells which of them can't be opened. Answers the status.
 fn run_job<P: Opener, I: Read, O: Write, E: Write>(
     with: &Resources<'_, P>,
     job: &CaselessJob,
     streams: &mut Streams<I, O, E>,
-) -> Result<u8, u8>
-    ensures done { IfOk result (JobEndsOverFiles (P.gives with.now.opener.now) job.now
-        (stream_of I.remaining streams.old.input streams.new.input) (stream_of O.contents streams.old.output streams.new.output)
-        (stream_of E.contents streams.old.error streams.new.error)) }
-    ensures unopened { IfErr result (IsUnopened (P.gives with.now.opener.now) (P.lacks with.now.opener.now) (caseless_asked_of job.now).files
-        (stream_of E.contents streams.old.error streams.new.error)) }
-    ensures unread { IfErr result (λ status. streams.new.input ≡ streams.old.input) }
-    ensures unwritten { IfErr result (λ status. streams.new.output ≡ streams.old.output) }
+) -> u8
+    ensures { EndsOrIsUnopened
+        (JobEndsOverFiles (P.gives with.now.opener.now) job.now (stream_of I.remaining streams.old.input streams.new.input)
+        (stream_of O.contents streams.old.output streams.new.output) (stream_of E.contents streams.old.error streams.new.error) result)
+        (IsUnopened (P.gives with.now.opener.now) (P.lacks with.now.opener.now) (caseless_asked_of job.now).files
+        (stream_of E.contents streams.old.error streams.new.error) result)
+        streams.old streams.new }
 {
     match job {
-        CaselessJob::Help => Ok(show_usage(
+        CaselessJob::Help => show_usage(
             with.alloc,
             &mut streams.output,
             &mut streams.error,
             caseless_usage_text(),
-        )),
+        ),
         CaselessJob::Key { form, files } => {
             run_over_folded(with, &KeyJob { form: *form }, files, streams)
         }
@@ -140,14 +133,14 @@ impl Program for NpssCaseless {
         with: &Resources<'_, P>,
         job: &CaselessAsked,
         streams: &mut Streams<I, O, E>,
-    ) -> Result<u8, u8> {
+    ) -> u8 {
         match job {
-            CaselessAsked::Version => Ok(show_usage(
+            CaselessAsked::Version => show_usage(
                 with.alloc,
                 &mut streams.output,
                 &mut streams.error,
                 caseless_version_text(),
-            )),
+            ),
             CaselessAsked::Job { job } => run_job(with, job, streams),
         }
     }
@@ -195,5 +188,5 @@ pub fn run_words<P: Opener, I: Read, O: Write, E: Write>(
         (stream_of I.remaining streams.old.input streams.new.input) (stream_of O.contents streams.old.output streams.new.output)
         (stream_of E.contents streams.old.error streams.new.error) result }
 {
-    run_program::<NpssCaseless, P, I, O, E>(with, words, streams)
+    parse_and_run::<NpssCaseless, P, I, O, E>(with, words, streams)
 }

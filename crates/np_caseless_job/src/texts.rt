@@ -1,10 +1,11 @@
 //! A job on one text under a version with its foldings: the three files of the version are read, then the input, then the
 //! text is answered.
-ghost use Rattle.std.specs.Prelude.{◌≡◌, ℕ, Bool, List, IfOk, IfErr, string_bytes};
+ghost use Rattle.std.specs.Prelude.{ℕ, Bool, List, IfOk, IfErr, string_bytes};
 ghost use Rattle.np_caseless.specs.Folded.{FoldedVersion};
 ghost use Rattle.np_caseless_job.specs.FoldedTexts.{AreFoldedTextReaders, FoldedTextEnds, FoldedTextReaders, MakesFolded, RefusesFolded};
 ghost use Rattle.np_caseless_job.specs.FoldedVersions.{folded_readers_of};
 ghost use Rattle.np_jobs.specs.Opening.{IsUnopened};
+ghost use Rattle.np_jobs.specs.Programs.{EndsOrIsUnopened};
 ghost use Rattle.np_jobs.specs.Streams.{stream_of};
 ghost use Rattle.np_jobs.specs.Texts.{IsMadeOfText, IsTextFault};
 ghost use Rattle.np_jobs.specs.declared.faults.TextFault.{TextFault};
@@ -16,7 +17,7 @@ use crate::versions::read_folded;
 use np_caseless::FoldedTable;
 use np_code_points::watched::Watched;
 use np_jobs::{
-    JobTable, Made, MadeTable, Opener, Resources, Streams, TextFault, finish, read_text,
+    JobOutput, JobTable, MadeTable, Opener, Resources, Streams, TextFault, finish, read_text,
 };
 use np_versions::NormTable;
 use np_words::FoldedFiles;
@@ -35,7 +36,7 @@ pub trait FoldedMaker {
         alloc: Global,
         table: &FoldedTable<T>,
         text: &str,
-    ) -> Result<Made, TextFault>
+    ) -> Result<JobOutput, TextFault>
         ensures made { IfOk result (λ m. makes self.now table.now text.now m.is_yes (string_bytes m.text)) }
         ensures refused { IfErr result (refuses self.now table.now text.now) };
 }
@@ -46,7 +47,7 @@ fn made_of_input<M: FoldedMaker, T: MadeTable, I: Read>(
     maker: &M,
     table: &FoldedTable<T>,
     input: &mut Watched<I>,
-) -> Result<Made, TextFault>
+) -> Result<JobOutput, TextFault>
     ensures made { IfOk result (λ m. IsMadeOfText (M.makes maker.now table.now) (stream_of I.remaining input.old input.new) m.is_yes (string_bytes m.text)) }
     ensures refused { IfErr result (IsTextFault (M.refuses maker.now table.now) (stream_of I.remaining input.old input.new)) }
 {
@@ -60,7 +61,7 @@ fn made_of_files<M: FoldedMaker, T: MadeTable, F: Read, I: Read>(
     maker: &M,
     files: &mut OpenFiles<F>,
     input: &mut Watched<I>,
-) -> Result<Made, CaselessFault>
+) -> Result<JobOutput, CaselessFault>
     ensures made { IfOk result (λ m. MakesFolded (M.makes maker.now) (record {
       files = folded_readers_of F.remaining files.old files.new;
       input = stream_of I.remaining input.old input.new;
@@ -91,27 +92,25 @@ fn text_job<M: FoldedMaker, F: Read, I: Read, O: Write, E: Write>(
     finish(alloc, &mut streams.output, &mut streams.error, made)
 }
 
-/// Opens the three files of a version, and does a job over them and the input. Answers the status; a refusal is told in a
-/// line on the error stream, and leaves the output as it was.
-///
-/// # Errors
-///
-/// The status that was told, where a file can't be opened.
+/// Opens the three files of a version, and does a job over them and the input. Answers the status; a refusal, or the first
+/// file that can't be opened, is told in a line on the error stream, and leaves the output as it was.
 pub fn run_over_folded<M: FoldedMaker, P: Opener, I: Read, O: Write, E: Write>(
     with: &Resources<'_, P>,
     maker: &M,
     files: &FoldedFiles,
     streams: &mut Streams<I, O, E>,
-) -> Result<u8, u8>
-    ensures done { IfOk result (λ status. (readers : FoldedTextReaders)
+) -> u8
+    ensures { EndsOrIsUnopened
+        ((readers : FoldedTextReaders)
         × AreFoldedTextReaders (P.gives with.now.opener.now) files.now (stream_of I.remaining streams.old.input streams.new.input) readers
         × FoldedTextEnds (M.makes maker.now) (M.refuses maker.now) readers (stream_of O.contents streams.old.output streams.new.output)
-        (stream_of E.contents streams.old.error streams.new.error) status) }
-    ensures unopened { IfErr result (IsUnopened (P.gives with.now.opener.now) (P.lacks with.now.opener.now) (folded_names_of files.now)
-        (stream_of E.contents streams.old.error streams.new.error)) }
-    ensures unread { IfErr result (λ status. streams.new.input ≡ streams.old.input) }
-    ensures unwritten { IfErr result (λ status. streams.new.output ≡ streams.old.output) }
+        (stream_of E.contents streams.old.error streams.new.error) result)
+        (IsUnopened (P.gives with.now.opener.now) (P.lacks with.now.opener.now) (folded_names_of files.now)
+        (stream_of E.contents streams.old.error streams.new.error) result)
+        streams.old streams.new }
 {
-    let mut opened = open_folded(with.opener, with.alloc, &mut streams.error, files)?;
-    Ok(text_job(with.alloc, maker, &mut opened, streams))
+    match open_folded(with.opener, with.alloc, &mut streams.error, files) {
+        Ok(mut opened) => text_job(with.alloc, maker, &mut opened, streams),
+        Err(status) => status,
+    }
 }

@@ -6,7 +6,7 @@ use np_examples_shared::devices::{Failure, Room, Trickle};
 use np_examples_shared::fixtures::{V1_DATA, V1_EXCLUSIONS};
 use np_examples_shared::{again, want};
 use np_lines::{LineEnd, Wanted};
-use np_lines_job::{Asked, LinesJob, REFUSED, lines_job, lines_usage_text, parse_lines};
+use np_lines_job::{LinesJob, LinesRun, REFUSED, lines_job, lines_usage_text, parse_lines};
 use np_words::WordsFault;
 use std::alloc::Global;
 use std::test::Fail;
@@ -47,7 +47,7 @@ fn status_of(
     error: &mut Watched<Vec<u8>>,
 ) -> u8 {
     let (is_strict, input, piece, (fails, _, failure), _) = row;
-    let asked = Asked {
+    let asked = LinesRun {
         wanted: BY_LF,
         is_strict: *is_strict,
     };

@@ -7,7 +7,7 @@ use crate::guest_table::GuestTable;
 use np_code_points::Memory;
 use np_code_points::watched::Watched;
 use np_tables::{PageTable, RowTable};
-use np_ucd::{read_exclusions, read_rows};
+use np_ucd::{read_exclusions, read_row_list};
 use np_versions::{NormTable, Version};
 use std::alloc::Global;
 use std::io::Read;
@@ -90,12 +90,12 @@ pub fn amid(alloc: Global, piece: &str, turn: &str) -> Result<String, Memory> {
     Ok(text)
 }
 
-/// The version that two files give.
+/// The version that two files give, as the programs make it.
 pub fn version_of(alloc: Global, files: Files<'_>) -> Result<Version, Fail> {
     let (data, exclusions) = files;
-    let rows = read_rows(alloc, &mut Watched::new(data.as_bytes()))?;
+    let rows = read_row_list(alloc, &mut Watched::new(data.as_bytes()))?;
     let exclusions = read_exclusions(alloc, &mut Watched::new(exclusions.as_bytes()))?;
-    Ok(Version::build(alloc, rows, exclusions)?)
+    Ok(Version::of_list(alloc, rows, exclusions)?)
 }
 
 /// A table that is made of a version.

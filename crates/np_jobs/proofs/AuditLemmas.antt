@@ -1,5 +1,6 @@
 -- What `audit` makes and why it is refused, by what became of the old version and of the new one.
-use Rattle.std.proofs.Common.{◌≡◌, ◌==◌, ◌<◌, ◌+◌, ◌∙◌, ℕ, true, false, List, [], ◌∷◌, ◌++◌, length, take, get_or, ap, append-nil, flat_map, codes, inl, inr, refl, sym, arith, string_bytes, Result, Ok, Err, IfOk, IfErr}
+use Rattle.std.proofs.Common.{◌≡◌, ◌==◌, ◌<◌, ◌+◌, ◌∙◌, ℕ, true, false, List, [], ◌∷◌, ◌++◌, length, take, get_or, ap, append-nil, flat_map, codes, inl, inr}
+use Rattle.std.proofs.Common.{refl, sym, arith, string_bytes, Result, Ok, Err, IfOk, IfErr}
 use Rattle.std.proofs.lemmas.Bool.{false≢true}
 use Rattle.std.proofs.lemmas.Bool.Decides.{Decides-eqb}
 use Rattle.std.proofs.lemmas.List.{take_more}
@@ -13,7 +14,7 @@ use Rattle.np_jobs.specs.Streams.{IsUntouched}
 use Rattle.np_jobs.specs.Tellings.{break_line}
 use Rattle.np_jobs.specs.Versions.{IsVersionFault, WasBuilt}
 use Rattle.np_jobs.specs.inside.AuditSteps.{LacksAgainst, MakesAgainst}
-use Rattle.np_jobs.specs.declared.ending.Made.{Made}
+use Rattle.np_jobs.specs.declared.ending.JobOutput.{JobOutput}
 use Rattle.np_jobs.specs.declared.faults.JobFault.{JobFault}
 use Rattle.np_jobs.specs.declared.faults.VersionFault.{VersionFault}
 
@@ -29,7 +30,8 @@ text_of_some [] some = absurd (false≢true some)
 text_of_some (b ∷ bs) some = refl
 
 -- the text of one more break
-pub text_more : (breaks : List Break) (i : ℕ) (d : Break) (old new : List ℕ) → i < length breaks → old ≡ flat_map break_line (take i breaks) → new ≡ old ++ break_line (get_or breaks i d)
+pub text_more : (breaks : List Break) (i : ℕ) (d : Break) (old new : List ℕ) → i < length breaks → old ≡ flat_map break_line (take i breaks)
+    → new ≡ old ++ break_line (get_or breaks i d)
     → new ≡ flat_map break_line (take (i + 1) breaks)
 text_more breaks i d old new inside so_far more =
     let line = break_line (get_or breaks i d) in
@@ -41,7 +43,8 @@ text_more breaks i d old new inside so_far more =
     ∙ ap (flat_map break_line) (sym (take_more breaks i d inside))
 
 -- the old version was refused, and the new one's files not looked at
-pub lacks_old : (old new : VersionReaders) (fault : VersionFault) → IsVersionFault 0 old.data_file old.exclusions_file fault → IsUntouched new.data_file → IsUntouched new.exclusions_file
+pub lacks_old : (old new : VersionReaders) (fault : VersionFault) → IsVersionFault 0 old.data_file old.exclusions_file fault → IsUntouched new.data_file
+    → IsUntouched new.exclusions_file
     → LacksOne (old ∷ new ∷ []) fault
 lacks_old old new fault refused data_file exclusions_file = record {
   before = [];
@@ -55,7 +58,8 @@ lacks_old old new fault refused data_file exclusions_file = record {
 }
 
 -- the old version was built, and the new one refused
-pub lacks_new : (old new : VersionReaders) (v : VersionData) (fault : VersionFault) → WasBuilt old.data_file old.exclusions_file v → IsVersionFault 1 new.data_file new.exclusions_file fault
+pub lacks_new : (old new : VersionReaders) (v : VersionData) (fault : VersionFault) → WasBuilt old.data_file old.exclusions_file v
+    → IsVersionFault 1 new.data_file new.exclusions_file fault
     → LacksOne (old ∷ new ∷ []) fault
 lacks_new old new v fault built refused = record {
   before = old ∷ [];
@@ -68,7 +72,7 @@ lacks_new old new v fault built refused = record {
   untouched = All-nil AreUntouched;
 }
 
-pub refused_against : (old new : VersionReaders) (v : VersionData) (made : Result Made JobFault) → WasBuilt old.data_file old.exclusions_file v
+pub refused_against : (old new : VersionReaders) (v : VersionData) (made : Result JobOutput JobFault) → WasBuilt old.data_file old.exclusions_file v
     → IfErr made (LacksAgainst new.data_file new.exclusions_file) → IfErr made (RefusesAudit (old ∷ new ∷ []))
 refused_against old new v (Ok m) built h = tt
 refused_against old new v (Err fault) built h = elim h [
@@ -76,7 +80,7 @@ refused_against old new v (Err fault) built h = elim h [
   | inr lacks ↦ inr (lacks.0, (v ∷ lacks.1.0 ∷ [], (built, (lacks.1.1, tt))))
 ]
 
-pub made_against : (old new : VersionReaders) (v : VersionData) (made : Result Made JobFault) → WasBuilt old.data_file old.exclusions_file v
+pub made_against : (old new : VersionReaders) (v : VersionData) (made : Result JobOutput JobFault) → WasBuilt old.data_file old.exclusions_file v
     → IfOk made (MakesAgainst v new.data_file new.exclusions_file) → IfOk made (λ m. MakesAudit (old ∷ new ∷ []) m.is_yes (string_bytes m.text))
 made_against old new v (Ok m) built h = record { old = v; new = h.new; built = (built, (h.built, tt)); is = h.is }
 made_against old new v (Err fault) built h = tt

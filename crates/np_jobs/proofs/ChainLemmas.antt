@@ -1,5 +1,6 @@
 -- The files of a chain's versions, read two by two.
-use Rattle.std.proofs.Common.{◌≡◌, ℕ, zero, suc, ◌+◌, ◌-◌, ◌*◌, ◌<◌, ◌≤◌, false, List, [], ◌∷◌, ◌++◌, length, get_or, set, Option, inl, inr, refl, sym, ap, subst, ◌∙◌, arith, append_assoc, All}
+use Rattle.std.proofs.Common.{◌≡◌, ℕ, zero, suc, ◌+◌, ◌-◌, ◌*◌, ◌<◌, ◌≤◌, false, List, [], ◌∷◌, ◌++◌, length, get_or, set, Option, inl, inr, refl, sym, ap}
+use Rattle.std.proofs.Common.{subst, ◌∙◌, arith, append_assoc, All}
 use Rattle.std.proofs.lemmas.List.{append-nil, length-append}
 use Rattle.std.proofs.lemmas.List.Elements.{All-cons, All-nil}
 use Rattle.std.specs.List.{AllZip}
@@ -40,7 +41,8 @@ module _ {D : Type 0} where
   none_cleared [] = tt
   none_cleared (x ∷ xs) = (refl, (λ h. absurd (omega arith)), none_cleared xs)
 
-  pub one_cleared : (count : ℕ) (old new : List (Watched D)) (is d : Watched D) → AreClearedUpTo count old new → device_of is ≡ device_of (get_or new count d) → has_failed is ≡ false
+  pub one_cleared : (count : ℕ) (old new : List (Watched D)) (is d : Watched D) → AreClearedUpTo count old new → device_of is ≡ device_of (get_or new count d)
+      → has_failed is ≡ false
       → AreClearedUpTo (count + 1) old (set new count is)
   one_cleared count [] [] is d up device clear = tt
   one_cleared count [] (y ∷ ys) is d up device clear = absurd up
@@ -66,7 +68,8 @@ module _ {D : Type 0} where
 
 module _ {D : Type 0} (tells : D → Option (List ℕ)) where
   -- a stream goes by the device that was there
-  pub readers_cleared : (count : ℕ) (old cleared new : List (Watched D)) → AreClearedUpTo count old cleared → readers_of tells cleared new ≡ readers_of tells old new
+  pub readers_cleared : (count : ℕ) (old cleared new : List (Watched D)) → AreClearedUpTo count old cleared
+      → readers_of tells cleared new ≡ readers_of tells old new
   readers_cleared count [] [] new up = refl
   readers_cleared count [] (y ∷ ys) new up = absurd up
   readers_cleared count (x ∷ xs) [] new up = absurd up
@@ -76,9 +79,14 @@ module _ {D : Type 0} (tells : D → Option (List ℕ)) where
   readers_cleared count (x ∷ w ∷ ws) (y ∷ z ∷ zs) [] up = refl
   readers_cleared count (x ∷ w ∷ ws) (y ∷ z ∷ zs) (d ∷ []) up = refl
   readers_cleared count (x ∷ w ∷ ws) (y ∷ z ∷ zs) (d ∷ e ∷ new) up =
-      ap (λ a. record { data_file = record { before = tells a; after = tells (device_of d); failed = has_failed d }; exclusions_file = stream_of tells z e } ∷ readers_of tells zs new) up.0
-      ∙ (ap (λ a. record { data_file = stream_of tells x d; exclusions_file = record { before = tells a; after = tells (device_of e); failed = has_failed e } } ∷ readers_of tells zs new) up.2.0
-      ∙ ap (λ rest. record { data_file = stream_of tells x d; exclusions_file = stream_of tells w e } ∷ rest) (readers_cleared (count - 1 - 1) ws zs new up.2.2))
+      ap (λ a. record { data_file = record { before = tells a; after = tells (device_of d); failed = has_failed d }; exclusions_file = stream_of tells z e }
+      ∷ readers_of tells zs new) up.0
+      ∙ (ap (λ a. record {
+        data_file = stream_of tells x d;
+        exclusions_file = record { before = tells a; after = tells (device_of e); failed = has_failed e };
+      } ∷ readers_of tells zs new) up.2.0
+      ∙ ap (λ rest. record { data_file = stream_of tells x d; exclusions_file = stream_of tells w e } ∷ rest)
+      (readers_cleared (count - 1 - 1) ws zs new up.2.2))
 
   readers-append : (number : ℕ) (xs ys zs ws : List (Watched D)) → length xs ≡ 2 * number → length zs ≡ 2 * number
       → readers_of tells (xs ++ ys) (zs ++ ws) ≡ readers_of tells xs zs ++ readers_of tells ys ws
@@ -89,7 +97,8 @@ module _ {D : Type 0} (tells : D → Option (List ℕ)) where
   readers-append number (x ∷ w ∷ xs) ys (z ∷ []) ws short long = absurd (omega arith)
   readers-append zero (x ∷ w ∷ xs) ys (z ∷ v ∷ zs) ws short long = absurd (omega arith)
   readers-append (suc k) (x ∷ w ∷ xs) ys (z ∷ v ∷ zs) ws short long =
-      ap (λ rest. record { data_file = stream_of tells x z; exclusions_file = stream_of tells w v } ∷ rest) (readers-append k xs ys zs ws (omega arith) (omega arith))
+      ap (λ rest. record { data_file = stream_of tells x z; exclusions_file = stream_of tells w v } ∷ rest)
+      (readers-append k xs ys zs ws (omega arith) (omega arith))
 
   pub readers-count : (number : ℕ) (xs zs : List (Watched D)) → length xs ≡ 2 * number → length zs ≡ 2 * number → length (readers_of tells xs zs) ≡ number
   readers-count number [] [] short long = omega arith
@@ -105,7 +114,8 @@ module _ {D : Type 0} (tells : D → Option (List ℕ)) where
   untouched [] clear = All-nil AreUntouched
   untouched (x ∷ []) clear = All-nil AreUntouched
   untouched (x ∷ y ∷ files) clear =
-      All-cons AreUntouched _ (readers_of tells files files) (record { same = refl; clear = clear.0 }, record { same = refl; clear = clear.1.0 }) (untouched files clear.1.1)
+      All-cons AreUntouched _ (readers_of tells files files) (record { same = refl; clear = clear.0 }, record { same = refl; clear = clear.1.0 })
+      (untouched files clear.1.1)
 
   -- ---- one version after another
 
@@ -124,7 +134,8 @@ module _ {D : Type 0} (tells : D → Option (List ℕ)) where
       (x ∷ rest.0, omega (arith, count), ap (λ tail. x ∷ tail) rest.2, ap (λ tail. x ∷ tail) rest.3)
 
   -- the two files around a cut
-  read_here : (P : Stream → Stream → Type 0) (number : ℕ) (front behind : List (Watched D)) (d e first second : Watched D) → length front ≡ 2 * number + 1 → 0 < length behind
+  read_here : (P : Stream → Stream → Type 0) (number : ℕ) (front behind : List (Watched D)) (d e first second : Watched D) → length front ≡ 2 * number + 1
+      → 0 < length behind
       → P (stream_of tells (get_or front (2 * number) d) first) (stream_of tells (get_or behind 0 e) second)
       → IsReadAt tells P number (front ++ behind) (set front (2 * number) first ++ set behind 0 second)
   read_here P number front [] d e first second long some holds = absurd (omega arith)
@@ -144,16 +155,19 @@ module _ {D : Type 0} (tells : D → Option (List ℕ)) where
       }
 
   -- the same of a list that was cut there
-  pub at_cut : (number : ℕ) (files front behind : List (Watched D)) (d e first second : Watched D) → files ≡ front ++ behind → length front ≡ 2 * number + 1 → 0 < length behind
+  pub at_cut : (number : ℕ) (files front behind : List (Watched D)) (d e first second : Watched D) → files ≡ front ++ behind → length front ≡ 2 * number + 1
+      → 0 < length behind
       → (P : Stream → Stream → Type 0) → P (stream_of tells (get_or front (2 * number) d) first) (stream_of tells (get_or behind 0 e) second)
       → IsReadAt tells P number files (set front (2 * number) first ++ set behind 0 second)
   at_cut number files front behind d e first second cut long some P holds =
-      subst (λ fs. IsReadAt tells P number fs (set front (2 * number) first ++ set behind 0 second)) (sym cut) (read_here P number front behind d e first second long some holds)
+      subst (λ fs. IsReadAt tells P number fs (set front (2 * number) first ++ set behind 0 second)) (sym cut)
+      (read_here P number front behind d e first second long some holds)
 
   module _ (number : ℕ) (old now new : List (Watched D)) (versions : List VersionData) (so_far : AreReadUpTo tells number old now versions) where
     pub one_more : (v : VersionData) → IsReadAt tells (λ d e. WasBuilt d e v) number now new → AreReadUpTo tells (number + 1) old new (versions ++ v ∷ [])
     one_more v at =
-        let same = same_front so_far.front_new so_far.behind at.front (at.data_old ∷ at.exclusions_old ∷ at.behind) (so_far.size_new ∙ sym at.size) (sym so_far.new_is ∙ at.old_is) in
+        let same = same_front so_far.front_new so_far.behind at.front (at.data_old ∷ at.exclusions_old ∷ at.behind) (so_far.size_new ∙ sym at.size)
+        (sym so_far.new_is ∙ at.old_is) in
         let size_front : length at.front ≡ 2 * number = at.size in
         record {
           front_old = so_far.front_old ++ at.data_old ∷ at.exclusions_old ∷ [];
@@ -161,25 +175,31 @@ module _ {D : Type 0} (tells : D → Option (List ℕ)) where
           behind = at.behind;
           size_old = let sum = length-append so_far.front_old (at.data_old ∷ at.exclusions_old ∷ []) in let was = so_far.size_old in omega (arith, sum, was);
           size_new = let sum = length-append at.front (at.data_new ∷ at.exclusions_new ∷ []) in let was = at.size in omega (arith, sum, was);
-          old_is = so_far.old_is ∙ (ap (λ b. so_far.front_old ++ b) same.1 ∙ sym (append_assoc so_far.front_old (at.data_old ∷ at.exclusions_old ∷ []) at.behind));
+          old_is = so_far.old_is ∙ (ap (λ b. so_far.front_old ++ b) same.1
+              ∙ sym (append_assoc so_far.front_old (at.data_old ∷ at.exclusions_old ∷ []) at.behind));
           new_is = at.new_is ∙ sym (append_assoc at.front (at.data_new ∷ at.exclusions_new ∷ []) at.behind);
           built = subst (λ readers. WereBuilt readers (versions ++ v ∷ []))
-              (sym (readers-append number so_far.front_old (at.data_old ∷ at.exclusions_old ∷ []) at.front (at.data_new ∷ at.exclusions_new ∷ []) so_far.size_old at.size))
+              (sym (readers-append number so_far.front_old (at.data_old ∷ at.exclusions_old ∷ []) at.front
+              (at.data_new ∷ at.exclusions_new ∷ []) so_far.size_old at.size))
               (all_zip-push (λ files w. WasBuilt files.data_file files.exclusions_file w) (readers_of tells so_far.front_old at.front) versions _ v
               (subst (λ front. WereBuilt (readers_of tells so_far.front_old front) versions) same.0 so_far.built) at.holds);
         }
 
-    pub one_lacks : (fault : VersionFault) → AreClear old → IsReadAt tells (λ d e. IsVersionFault number d e fault) number now new → LacksOne (readers_of tells old new) fault
+    pub one_lacks : (fault : VersionFault) → AreClear old → IsReadAt tells (λ d e. IsVersionFault number d e fault) number now new
+        → LacksOne (readers_of tells old new) fault
     one_lacks fault clear at =
-        let same = same_front so_far.front_new so_far.behind at.front (at.data_old ∷ at.exclusions_old ∷ at.behind) (so_far.size_new ∙ sym at.size) (sym so_far.new_is ∙ at.old_is) in
+        let same = same_front so_far.front_new so_far.behind at.front (at.data_old ∷ at.exclusions_old ∷ at.behind) (so_far.size_new ∙ sym at.size)
+        (sym so_far.new_is ∙ at.old_is) in
         let old_is : old ≡ so_far.front_old ++ (at.data_old ∷ at.exclusions_old ∷ at.behind) = so_far.old_is ∙ ap (λ b. so_far.front_old ++ b) same.1 in
         let rest = clear_behind so_far.front_old (at.data_old ∷ at.exclusions_old ∷ at.behind) (subst AreClear old_is clear) in
         record {
           before = readers_of tells so_far.front_old at.front;
           here = record { data_file = stream_of tells at.data_old at.data_new; exclusions_file = stream_of tells at.exclusions_old at.exclusions_new };
           behind = readers_of tells at.behind at.behind;
-          are = ap (λ files. readers_of tells files new) old_is ∙ (ap (λ files. readers_of tells (so_far.front_old ++ at.data_old ∷ at.exclusions_old ∷ at.behind) files) at.new_is
-              ∙ readers-append number so_far.front_old (at.data_old ∷ at.exclusions_old ∷ at.behind) at.front (at.data_new ∷ at.exclusions_new ∷ at.behind) so_far.size_old at.size);
+          are = ap (λ files. readers_of tells files new) old_is
+              ∙ (ap (λ files. readers_of tells (so_far.front_old ++ at.data_old ∷ at.exclusions_old ∷ at.behind) files) at.new_is
+              ∙ readers-append number so_far.front_old (at.data_old ∷ at.exclusions_old ∷ at.behind) at.front
+              (at.data_new ∷ at.exclusions_new ∷ at.behind) so_far.size_old at.size);
           versions = versions;
           built = subst (λ front. WereBuilt (readers_of tells so_far.front_old front) versions) same.0 so_far.built;
           refused = subst (λ n. IsVersionFault n (stream_of tells at.data_old at.data_new) (stream_of tells at.exclusions_old at.exclusions_new) fault)
@@ -208,7 +228,8 @@ module _ {D : Type 0} (tells : D → Option (List ℕ)) where
   none_behind (x ∷ []) few = refl
   none_behind (x ∷ y ∷ files) few = absurd (omega arith)
 
-  pub all_read : (number : ℕ) (old new : List (Watched D)) (versions : List VersionData) → AreReadUpTo tells number old new versions → length old < 2 * number + 2 → WereBuilt (readers_of tells old new) versions
+  pub all_read : (number : ℕ) (old new : List (Watched D)) (versions : List VersionData) → AreReadUpTo tells number old new versions
+      → length old < 2 * number + 2 → WereBuilt (readers_of tells old new) versions
   all_read number old new versions so_far few =
       let sum = length-append so_far.front_old so_far.behind in
       let whole = ap length so_far.old_is in

@@ -16,14 +16,18 @@ use Rattle.np_jobs.specs.Versions.{IsFaultOver, WasBuiltOver}
 use Rattle.np_jobs.specs.declared.faults.VersionFault.{VersionFault}
 use Rattle.np_jobs.specs.declared.faults.VersionFault.TheVariants.{Tables}
 
-pub has_rows : (file : Stream) (rows : List Entry) → ((bytes : List ℕ) × IsReadWhole file.before file.after bytes × HasNoFault bytes × AreAllRows bytes rows) → (file.failed ≡ true → ⊥) → HasRows file rows
+pub has_rows : (file : Stream) (rows : List Entry) → ((bytes : List ℕ) × IsReadWhole file.before file.after bytes × HasNoFault bytes × AreAllRows bytes rows)
+    → (file.failed ≡ true → ⊥) → HasRows file rows
 has_rows file rows h sound = record { bytes = h.0; read = record { read = h.1; clear = false_from_ne_true _ sound }; faultless = h.2; are = h.3 }
 
-pub has_exclusions : (file : Stream) (spans : List Span) → ((bytes : List ℕ) × IsReadWhole file.before file.after bytes × AreReadable bytes × ((code : ℕ) → (is_listed spans code ≡ true) ↔ IsListedIn bytes code)) → (file.failed ≡ true → ⊥) → HasExclusions file spans
+pub has_exclusions : (file : Stream) (spans : List Span)
+    → ((bytes : List ℕ) × IsReadWhole file.before file.after bytes × AreReadable bytes × ((code : ℕ) → (is_listed spans code ≡ true) ↔ IsListedIn bytes code))
+    → (file.failed ≡ true → ⊥) → HasExclusions file spans
 has_exclusions file spans h sound = record { bytes = h.0; read = record { read = h.1; clear = false_from_ne_true _ sound }; readable = h.2; listed = h.3 }
 
 -- of rows and exclusions a version was built, or it has a fault
-pub built_over : (rows : List Entry) (exclusions_file : Stream) (spans : List Span) (built : Result VersionData VersionFault) → HasExclusions exclusions_file spans
+pub built_over : (rows : List Entry) (exclusions_file : Stream) (spans : List Span) (built : Result VersionData VersionFault)
+    → HasExclusions exclusions_file spans
     → IfOk built (λ v. v ≡ record { entries = rows; exclusions = spans }) → IfOk built IsFaultless → IfOk built (WasBuiltOver rows exclusions_file)
 built_over rows exclusions_file spans (Ok v) lists is fine = record {
   over = ap (λ (w : VersionData). w.entries) is;
@@ -32,8 +36,10 @@ built_over rows exclusions_file spans (Ok v) lists is fine = record {
 }
 built_over rows exclusions_file spans (Err fault) lists is fine = tt
 
-pub fault_over : (number : ℕ) (rows : List Entry) (exclusions_file : Stream) (spans : List Span) (built : Result VersionData VersionFault) → HasExclusions exclusions_file spans
-    → IfErr built (Wraps (Tables number) (IsTablesFault (record { entries = rows; exclusions = spans }))) → IfErr built (IsFaultOver number rows exclusions_file)
+pub fault_over : (number : ℕ) (rows : List Entry) (exclusions_file : Stream) (spans : List Span) (built : Result VersionData VersionFault)
+    → HasExclusions exclusions_file spans
+    → IfErr built (Wraps (Tables number) (IsTablesFault (record { entries = rows; exclusions = spans })))
+    → IfErr built (IsFaultOver number rows exclusions_file)
 fault_over number rows exclusions_file spans (Ok v) lists refused = tt
 fault_over number rows exclusions_file spans (Err fault) lists refused = inr (record { entries = rows; exclusions = spans }, refl, lists, refused)
 

@@ -4,10 +4,15 @@ use Rattle.np_jobs.specs.Ends.{IsTold, TellsRefusal}
 use Rattle.np_jobs.specs.Opening.{IsUnopened}
 use Rattle.np_jobs.specs.Streams.{Stream}
 use Rattle.np_jobs.specs.declared.faults.JobFault.TheVariants.{Memory}
+use Rattle.np_jobs.specs.declared.streams.Streams.{Streams}
 
 -- how a job of a program ends over the files that its names opened
 abbrev pub JobEnd : Type 0 → Type 1
 JobEnd J = (List ℕ → Option (List ℕ) → Type 0) → J → Stream → Stream → Stream → ℕ → Type 0
+
+-- a run ended so over its files; or the first of them that doesn't open was told, and input and output stand as they stood
+abbrev pub EndsOrIsUnopened : {I O E : Type 0} → Type 0 → Type 0 → Streams I O E → Streams I O E → Type 0
+EndsOrIsUnopened ended unopened old new = ended ⊎ (unopened × (new.input ≡ old.input) × (new.output ≡ old.output))
 
 -- no job is asked for: the words ask for nothing that there is, or memory ran out
 abbrev pub IsNotAsked : (List (List ℕ) → Type 0) → List ℕ → List (List ℕ) → Stream → ℕ → Type 0

@@ -5,7 +5,7 @@ ghost use Rattle.np_jobs.specs.Chains.{readers_of};
 ghost use Rattle.np_jobs.specs.Streams.{stream_of};
 ghost use Rattle.np_jobs.specs.inside.AuditSteps.{LacksAgainst, MakesAgainst};
 
-use crate::ending::Made;
+use crate::ending::JobOutput;
 use crate::faults::JobFault;
 use crate::lines::write_break;
 use crate::versions::read_version;
@@ -31,19 +31,19 @@ fn lines_of(alloc: Global, breaks: &[Break]) -> Result<String, Memory>
 }
 
 /// All that the new version breaks of the old one, as text, and whether that is nothing.
-fn make_audit(alloc: Global, old: &Version, new: &Version) -> Result<Made, Memory>
+fn make_audit(alloc: Global, old: &Version, new: &Version) -> Result<JobOutput, Memory>
     ensures { IfOk result (λ m. IsAudit old.now new.now m.is_yes (string_bytes m.text)) }
 {
     let breaks = audit(alloc, old, new)?;
     let text = lines_of(alloc, breaks.as_slice())?;
-    Ok(Made {
+    Ok(JobOutput {
         text,
         is_yes: breaks.is_empty(),
     })
 }
 
 /// The same, or why a job is refused.
-fn audited(alloc: Global, old: &Version, new: &Version) -> Result<Made, JobFault>
+fn audited(alloc: Global, old: &Version, new: &Version) -> Result<JobOutput, JobFault>
     ensures made { IfOk result (λ m. IsAudit old.now new.now m.is_yes (string_bytes m.text)) }
     ensures refused { IfErr result (λ fault. fault ≡ JobFault.Memory) }
 {
@@ -59,7 +59,7 @@ fn made_against<F: Read>(
     old: &Version,
     new_data_file: &mut Watched<F>,
     new_exclusions_file: &mut Watched<F>,
-) -> Result<Made, JobFault>
+) -> Result<JobOutput, JobFault>
     ensures made { IfOk result (MakesAgainst old.now
         (stream_of F.remaining new_data_file.old new_data_file.new) (stream_of F.remaining new_exclusions_file.old new_exclusions_file.new)) }
     ensures refused { IfErr result (LacksAgainst
@@ -78,7 +78,7 @@ pub(super) fn made_of_versions<F: Read>(
     old_exclusions_file: &mut Watched<F>,
     new_data_file: &mut Watched<F>,
     new_exclusions_file: &mut Watched<F>,
-) -> Result<Made, JobFault>
+) -> Result<JobOutput, JobFault>
     ensures made { IfOk result (λ m. MakesAudit (readers_of F.remaining
         (old_data_file.old ∷ old_exclusions_file.old ∷ new_data_file.old ∷ new_exclusions_file.old ∷ [])
         (old_data_file.new ∷ old_exclusions_file.new ∷ new_data_file.new ∷ new_exclusions_file.new ∷ [])) m.is_yes (string_bytes m.text)) }

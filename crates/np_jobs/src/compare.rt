@@ -4,7 +4,7 @@ ghost use Rattle.np_code_points.specs.Lines.{HasNo};
 ghost use Rattle.np_forms.specs.Assigned.{IsAssigned};
 ghost use Rattle.np_jobs.specs.Comparisons.{AreTwoLines, IsCompareOutput, IsComparison, LacksAssigned, LacksCompareOutput, LacksComparison, answer_text};
 
-use crate::ending::Made;
+use crate::ending::JobOutput;
 use crate::faults::TextFault;
 use crate::texts::TextMaker;
 use np_code_points::Form;
@@ -78,7 +78,7 @@ fn make_comparison<T: NormTable>(
     form: Form,
     table: &T,
     text: &str,
-) -> Result<Made, TextFault>
+) -> Result<JobOutput, TextFault>
     ensures answer { IfOk result (λ m. IsCompareOutput form (T.model table.now) text.now m.is_yes (string_bytes m.text)) }
     ensures refused { IfErr result (LacksCompareOutput (T.model table.now) text.now) }
 {
@@ -87,7 +87,7 @@ fn make_comparison<T: NormTable>(
     };
     let is_yes = comparison_of(alloc, form, table, first, second)?;
     match answer_line(alloc, is_yes) {
-        Ok(text) => Ok(Made { text, is_yes }),
+        Ok(text) => Ok(JobOutput { text, is_yes }),
         Err(_) => Err(TextFault::Memory),
     }
 }
@@ -109,7 +109,7 @@ impl TextMaker for CompareJob {
         alloc: Global,
         table: &T,
         text: String,
-    ) -> Result<Made, TextFault> {
+    ) -> Result<JobOutput, TextFault> {
         make_comparison(alloc, self.form, table, text.as_str())
     }
 }

@@ -16,7 +16,7 @@ use std::io::Write;
 /// What a job makes before its first write: its whole output, and whether its answer is yes. The
 /// answer of a job that has no other is yes.
 #[derive(Debug, Drop)]
-pub struct Made {
+pub struct JobOutput {
     /// The whole output.
     pub text: String,
     /// Whether the answer is yes.
@@ -60,7 +60,7 @@ pub fn finish<O: Write, E: Write, F: Refusal>(
     alloc: Global,
     output: &mut Watched<O>,
     error: &mut Watched<E>,
-    made: Result<Made, F>,
+    made: Result<JobOutput, F>,
 ) -> u8
     ensures { EndsWith F.telling made (stream_of O.contents output.old output.new) (stream_of E.contents error.old error.new) result }
 {

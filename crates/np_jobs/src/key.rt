@@ -3,7 +3,7 @@ ghost use Rattle.std.specs.Prelude.{◌≡◌, IfOk, IfErr, chars, string_bytes,
 ghost use Rattle.np_forms.specs.Forms.{IsNormalForm};
 ghost use Rattle.np_jobs.specs.Keys.{IsKeyOutput, LacksKeyOutput};
 
-use crate::ending::Made;
+use crate::ending::JobOutput;
 use crate::faults::TextFault;
 use crate::texts::TextMaker;
 use np_code_points::Form;
@@ -46,8 +46,8 @@ impl TextMaker for KeyJob {
         alloc: Global,
         table: &T,
         text: String,
-    ) -> Result<Made, TextFault> {
+    ) -> Result<JobOutput, TextFault> {
         let text = key_of(alloc, self.form, table, text)?;
-        Ok(Made { text, is_yes: true })
+        Ok(JobOutput { text, is_yes: true })
     }
 }

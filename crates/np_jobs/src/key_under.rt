@@ -9,7 +9,7 @@ ghost use Rattle.np_jobs.specs.Streams.{stream_of};
 ghost use Rattle.np_jobs.specs.Texts.{IsMadeOfText, IsTextFault};
 ghost use Rattle.np_jobs.specs.inside.UnderSteps.{MakesOfPair};
 
-use crate::ending::Made;
+use crate::ending::JobOutput;
 use crate::faults::{JobFault, TextFault, VersionFault};
 use crate::key::key_of;
 use crate::lines::unassigned_text;
@@ -45,7 +45,7 @@ fn make_own<T: NormTable>(
     old: &Version,
     table: &T,
     text: String,
-) -> Result<Made, TextFault>
+) -> Result<JobOutput, TextFault>
     requires { Extends old.now (T.model table.now) }
     ensures own { IfOk result (λ m. IsKeyUnder form old.now (T.model table.now) (string_bytes text) m.is_yes (string_bytes m.text)) }
     ensures refused { IfErr result (LacksKeyOutput (T.model table.now) (string_bytes text)) }
@@ -56,7 +56,7 @@ fn make_own<T: NormTable>(
     np_chain::laws::backward();
     let key = key_of(alloc, form, table, text)?;
     match own_line(alloc, old, key.as_str()) {
-        Ok(text) => Ok(Made { text, is_yes: true }),
+        Ok(text) => Ok(JobOutput { text, is_yes: true }),
         Err(_) => Err(TextFault::Memory),
     }
 }
@@ -68,7 +68,7 @@ fn made_of_input<T: NormTable, I: Read>(
     old: &Version,
     table: &T,
     input: &mut Watched<I>,
-) -> Result<Made, TextFault>
+) -> Result<JobOutput, TextFault>
     requires { Extends old.now (T.model table.now) }
     ensures made { IfOk result (λ m. IsMadeOfText (IsKeyUnder form old.now (T.model table.now))
         (stream_of I.remaining input.old input.new) m.is_yes (string_bytes m.text)) }
@@ -85,7 +85,7 @@ fn made_of_pair<T: NormTable, I: Read>(
     old: &Version,
     table: &T,
     input: &mut Watched<I>,
-) -> Result<Made, JobFault>
+) -> Result<JobOutput, JobFault>
     requires { has_failed input.old ≡ false }
     ensures made { IfOk result (MakesOfPair form old.now (T.model table.now) (stream_of I.remaining input.old input.new)) }
     ensures refused { IfErr result (RefusesPair old.now (T.model table.now) (stream_of I.remaining input.old input.new)) }
@@ -127,7 +127,7 @@ pub(super) fn made_of_versions<T: MadeTable, F: Read, I: Read>(
     data_file: &mut Watched<F>,
     exclusions_file: &mut Watched<F>,
     input: &mut Watched<I>,
-) -> Result<Made, JobFault>
+) -> Result<JobOutput, JobFault>
     ensures made { IfOk result (λ m. MakesUnder form (record {
       versions = readers_of F.remaining
           (old_data_file.old ∷ old_exclusions_file.old ∷ data_file.old ∷ exclusions_file.old ∷ [])

@@ -28,7 +28,7 @@ mod versions;
 
 pub use chains::read_tables;
 pub use compare::{CompareJob, answer_line, both_assigned, two_lines};
-pub use ending::{Made, finish, refuse, tell};
+pub use ending::{JobOutput, finish, refuse, tell};
 pub use faults::{JobFault, ReplayFault, TextFault, VersionFault};
 pub use jobs::{audit_job, compare_job, key_job, key_under_job, normalize_job};
 pub use key::KeyJob;
@@ -37,7 +37,7 @@ pub use lines::{Line, OUT_OF_MEMORY, code_text, line_of, write_kind};
 pub use normalize::NormalizeJob;
 pub use openers::{Opener, SystemFiles};
 pub use opening::{open_file, open_version, open_versions};
-pub use programs::{Program, run_found, run_program};
+pub use programs::{Program, parse_and_run, run_parsed};
 pub use refusals::Refusal;
 pub use standard::{Standard, StandardInput, StandardStreams, take_standard};
 pub use statuses::{BAD, DIFFERENT, DONE, FAILED, MEMORY};

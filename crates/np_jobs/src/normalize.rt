@@ -13,8 +13,8 @@ use np_versions::NormTable;
 use std::alloc::Global;
 use std::io::{Read, Write};
 
-/// How a fault of a run is told.
-fn told(fault: RunFault) -> JobFault
+/// The fault of the job that the fault of a run is.
+fn job_fault_of(fault: RunFault) -> JobFault
     ensures { result ≡ told_as fault }
 {
     let fault = match fault {
@@ -52,7 +52,7 @@ impl StreamingJob for NormalizeJob {
     ) -> Result<u8, JobFault> {
         match run(alloc, table, self.form, input, output) {
             Ok(_) => Ok(DONE),
-            Err(fault) => Err(told(fault)),
+            Err(fault) => Err(job_fault_of(fault)),
         }
     }
 }

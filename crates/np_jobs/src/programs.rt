@@ -2,7 +2,7 @@
 ghost use Rattle.std.specs.Prelude.{◌≡◌, ℕ, List, Option, map, string_bytes, Err, IfErr, IfOk};
 ghost use Rattle.np_jobs.specs.Ends.{IsTold, TellsRefusal};
 ghost use Rattle.np_jobs.specs.Opening.{IsUnopened};
-ghost use Rattle.np_jobs.specs.Programs.{IsProgramEnd, IsRun};
+ghost use Rattle.np_jobs.specs.Programs.{EndsOrIsUnopened, IsProgramEnd, IsRun};
 ghost use Rattle.np_jobs.specs.Streams.{Stream, stream_of};
 
 use crate::ending::refuse;
@@ -45,28 +45,23 @@ pub trait Program {
         ensures runs { IfOk result can_run }
         ensures usage { result ≡ Err WordsFault.Usage → asks_nothing (map string_bytes words.now) };
 
-    /// Does a job, and answers the status.
-    ///
-    /// # Errors
-    ///
-    /// The status that was told, where a file can't be opened.
+    /// Opens the files of a job and does it, or tells which of them can't be opened. Answers the status.
     fn run<P: Opener, I: Read, O: Write, E: Write>(
         with: &Resources<'_, P>,
         job: &Self::Job,
         streams: &mut Streams<I, O, E>,
-    ) -> Result<u8, u8>
+    ) -> u8
         requires { can_run job.now }
-        ensures done { IfOk result (ends (P.gives with.now.opener.now) job.now
-            (stream_of I.remaining streams.old.input streams.new.input) (stream_of O.contents streams.old.output streams.new.output)
-            (stream_of E.contents streams.old.error streams.new.error)) }
-        ensures unopened { IfErr result (IsUnopened (P.gives with.now.opener.now) (P.lacks with.now.opener.now) (files_of job.now)
-            (stream_of E.contents streams.old.error streams.new.error)) }
-        ensures unread { IfErr result (λ status. streams.new.input ≡ streams.old.input) }
-        ensures unwritten { IfErr result (λ status. streams.new.output ≡ streams.old.output) };
+        ensures { EndsOrIsUnopened
+            (ends (P.gives with.now.opener.now) job.now (stream_of I.remaining streams.old.input streams.new.input)
+            (stream_of O.contents streams.old.output streams.new.output) (stream_of E.contents streams.old.error streams.new.error) result)
+            (IsUnopened (P.gives with.now.opener.now) (P.lacks with.now.opener.now) (files_of job.now)
+            (stream_of E.contents streams.old.error streams.new.error) result)
+            streams.old streams.new };
 }
 
 /// Does what words ask for, by what was found in them, or tells why they ask for nothing. Answers the status.
-pub fn run_found<G: Program, P: Opener, I: Read, O: Write, E: Write>(
+pub fn run_parsed<G: Program, P: Opener, I: Read, O: Write, E: Write>(
     with: &Resources<'_, P>,
     found: &Result<G::Job, WordsFault>,
     streams: &mut Streams<I, O, E>,
@@ -81,17 +76,14 @@ pub fn run_found<G: Program, P: Opener, I: Read, O: Write, E: Write>(
     ensures unwritten { IfErr found.now (λ _. streams.new.output ≡ streams.old.output) }
 {
     match found {
-        Ok(job) => match G::run(with, job, streams) {
-            Ok(status) => status,
-            Err(status) => status,
-        },
+        Ok(job) => G::run(with, job, streams),
         Err(WordsFault::Usage) => tell_usage(&mut streams.error, G::usage()),
         Err(WordsFault::Memory) => refuse(with.alloc, &mut streams.error, &JobFault::Memory),
     }
 }
 
 /// Does what the words, without the program's name, ask for, and answers the status.
-pub fn run_program<G: Program, P: Opener, I: Read, O: Write, E: Write>(
+pub fn parse_and_run<G: Program, P: Opener, I: Read, O: Write, E: Write>(
     with: &Resources<'_, P>,
     words: &[String],
     streams: &mut Streams<I, O, E>,
@@ -101,5 +93,5 @@ pub fn run_program<G: Program, P: Opener, I: Read, O: Write, E: Write>(
         (stream_of O.contents streams.old.output streams.new.output) (stream_of E.contents streams.old.error streams.new.error) result }
 {
     let found = G::parse(with.alloc, words);
-    run_found::<G, P, I, O, E>(with, &found, streams)
+    run_parsed::<G, P, I, O, E>(with, &found, streams)
 }

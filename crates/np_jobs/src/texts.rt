@@ -7,7 +7,7 @@ ghost use Rattle.np_jobs.specs.Wraps.{Wraps};
 ghost use Rattle.np_jobs.specs.declared.faults.TextFault.{TextFault};
 ghost use Rattle.np_versions.specs.Versions.{VersionData};
 
-use crate::ending::{Made, finish};
+use crate::ending::{JobOutput, finish};
 use crate::faults::{JobFault, TextFault};
 use crate::streams::Streams;
 use crate::version_jobs::VersionJob;
@@ -31,7 +31,7 @@ pub trait TextMaker {
         alloc: Global,
         table: &T,
         text: String,
-    ) -> Result<Made, TextFault>
+    ) -> Result<JobOutput, TextFault>
         ensures made { IfOk result (λ m. makes self.now (T.model table.now) (string_bytes text) m.is_yes (string_bytes m.text)) }
         ensures refused { IfErr result (refuses self.now (T.model table.now) (string_bytes text)) };
 }
@@ -70,7 +70,7 @@ fn made_of_input<M: TextMaker, T: NormTable, I: Read>(
     maker: &M,
     table: &T,
     input: &mut Watched<I>,
-) -> Result<Made, TextFault>
+) -> Result<JobOutput, TextFault>
     ensures made { IfOk result (λ m. IsMadeOfText (M.makes maker.now (T.model table.now))
         (stream_of I.remaining input.old input.new) m.is_yes (string_bytes m.text)) }
     ensures refused { IfErr result (IsTextFault (M.refuses maker.now (T.model table.now)) (stream_of I.remaining input.old input.new)) }
@@ -91,7 +91,7 @@ pub(crate) fn made_of_files<M: TextMaker, T: MadeTable, F: Read, I: Read>(
     data_file: &mut Watched<F>,
     exclusions_file: &mut Watched<F>,
     input: &mut Watched<I>,
-) -> Result<Made, JobFault>
+) -> Result<JobOutput, JobFault>
     ensures made { IfOk result (λ m. MakesOfText (M.makes maker.now) (record {
       data_file = stream_of F.remaining data_file.old data_file.new;
       exclusions_file = stream_of F.remaining exclusions_file.old exclusions_file.new;

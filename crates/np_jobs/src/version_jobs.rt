@@ -1,6 +1,7 @@
 //! Jobs over the two files of a version and an input.
-ghost use Rattle.std.specs.Prelude.{◌≡◌, ℕ, IfErr, IfOk};
+ghost use Rattle.std.specs.Prelude.{ℕ};
 ghost use Rattle.np_jobs.specs.Opening.{AreTextReaders, IsUnopened};
+ghost use Rattle.np_jobs.specs.Programs.{EndsOrIsUnopened};
 ghost use Rattle.np_jobs.specs.Streams.{Stream, stream_of};
 ghost use Rattle.np_jobs.specs.Texts.{TextReaders};
 ghost use Rattle.np_words.specs.Words.{names_of};
@@ -32,31 +33,25 @@ pub trait VersionJob {
         }) (stream_of O.contents streams.old.output streams.new.output) (stream_of E.contents streams.old.error streams.new.error) result };
 }
 
-/// Opens the two files of a version, and does a job over them and the input.
-///
-/// # Errors
-///
-/// The status that was told, where a file can't be opened.
+/// Opens the two files of a version and does a job over them and the input, or tells which of them can't be opened. Answers
+/// the status.
 pub fn run_over_version<J: VersionJob, P: Opener, I: Read, O: Write, E: Write>(
     with: &Resources<'_, P>,
     job: &J,
     files: &VersionFiles,
     streams: &mut Streams<I, O, E>,
-) -> Result<u8, u8>
-    ensures done { IfOk result (λ status. (readers : TextReaders)
+) -> u8
+    ensures { EndsOrIsUnopened
+        ((readers : TextReaders)
         × AreTextReaders (P.gives with.now.opener.now) files.now (stream_of I.remaining streams.old.input streams.new.input) readers
         × J.Ends job.now readers (stream_of O.contents streams.old.output streams.new.output)
-        (stream_of E.contents streams.old.error streams.new.error) status) }
-    ensures unopened { IfErr result (IsUnopened (P.gives with.now.opener.now) (P.lacks with.now.opener.now) (names_of files.now)
-        (stream_of E.contents streams.old.error streams.new.error)) }
-    ensures unread { IfErr result (λ status. streams.new.input ≡ streams.old.input) }
-    ensures unwritten { IfErr result (λ status. streams.new.output ≡ streams.old.output) }
+        (stream_of E.contents streams.old.error streams.new.error) result)
+        (IsUnopened (P.gives with.now.opener.now) (P.lacks with.now.opener.now) (names_of files.now)
+        (stream_of E.contents streams.old.error streams.new.error) result)
+        streams.old streams.new }
 {
-    let (mut data, mut exclusions) = open_version(
-        with.opener,
-        with.alloc,
-        &mut streams.error,
-        files,
-    )?;
-    Ok(job.run(with.alloc, &mut data, &mut exclusions, streams))
+    match open_version(with.opener, with.alloc, &mut streams.error, files) {
+        Ok((mut data, mut exclusions)) => job.run(with.alloc, &mut data, &mut exclusions, streams),
+        Err(status) => status,
+    }
 }

@@ -1,5 +1,6 @@
 -- What `clap` reads in the words of `npss_lines`.
-use Rattle.std.proofs.Common.{◌≡◌, ◌≢◌, ◌≤◌, ◌∙◌, false, List, [], ◌∷◌, Option, None, Some, option_and_then, option_map, sym, ap, Result, Ok, Err, IfOk, arith, inl, inr, length, map, refl, true}
+use Rattle.std.proofs.Common.{◌≡◌, ◌≢◌, ◌≤◌, ◌∙◌, false, List, [], ◌∷◌, Option, None, Some, option_and_then, option_map, sym, ap, Result, Ok, Err, IfOk, arith}
+use Rattle.std.proofs.Common.{inl, inr, length, map, refl, true}
 use Rattle.clap.specs.Words.{App, HasKind, HasMatchesOf, Kinds, Row, Text, found_of, is_simple, is_simple_and_free, kind_of, matches_of, rows_of}
 use Rattle.clap.specs.declared.error.Error.{Error}
 use Rattle.clap.specs.declared.error.kind.ErrorKind.TheVariants.{OutOfMemory}

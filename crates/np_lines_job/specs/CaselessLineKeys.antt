@@ -19,7 +19,7 @@ use Rattle.np_lines.specs.declared.lines.Wanted.{Wanted}
 use Rattle.np_lines.specs.declared.runs.LinesFault.{LinesFault}
 use Rattle.np_lines.specs.declared.runs.LinesFault.TheVariants as Lines
 use Rattle.np_lines_job.specs.LineKeys.{lines_status}
-use Rattle.np_lines_job.specs.declared.job.Asked.{Asked}
+use Rattle.np_lines_job.specs.declared.job.LinesRun.{LinesRun}
 use Rattle.np_lines_job.specs.declared.stops.CaselessLinesFault.{CaselessLinesFault}
 use Rattle.np_lines_job.specs.declared.stops.CaselessLinesFault.TheVariants.{Caseless, WriteFailed}
 
@@ -45,12 +45,12 @@ pub record WasAnsweredCaselessly (wanted : Wanted) (answer : Result Bool LinesFa
   pub written : (answer ≡ Err Lines.WriteFailed) ↔ (output.failed ≡ true)
 
 -- each line has its answer
-abbrev pub AreAnsweredCaselessly : Asked → ℕ → FoldedVersion → Stream → Stream → Type 0
+abbrev pub AreAnsweredCaselessly : LinesRun → ℕ → FoldedVersion → Stream → Stream → Type 0
 AreAnsweredCaselessly asked status v input output =
     (any_refused : Bool) × WasAnsweredCaselessly asked.wanted (Ok any_refused) v input output × (status ≡ lines_status asked.is_strict any_refused)
 
 -- the run ended early
-abbrev pub AreNotAnsweredCaselessly : Asked → CaselessLinesFault → FoldedVersion → Stream → Stream → Type 0
+abbrev pub AreNotAnsweredCaselessly : LinesRun → CaselessLinesFault → FoldedVersion → Stream → Stream → Type 0
 AreNotAnsweredCaselessly asked fault v input output =
     Wraps told_caselessly_as (λ stopped. WasAnsweredCaselessly asked.wanted (Err stopped) v input output) fault
 
@@ -61,13 +61,13 @@ pub record WasStreamedFolded (Runs : FoldedVersion → Stream → Stream → Typ
   pub runs : Runs v readers.input output
 
 -- it ended early; or the version was refused, and nothing was read of the input or written
-abbrev pub IsCaselessStop : Asked → FoldedTextReaders → Stream → CaselessLinesFault → Type 0
+abbrev pub IsCaselessStop : LinesRun → FoldedTextReaders → Stream → CaselessLinesFault → Type 0
 IsCaselessStop asked readers output fault =
     WasStreamedFolded (AreNotAnsweredCaselessly asked fault) readers output
     ⊎ (Wraps of_three (IsFoldedFault 0 readers.files) fault × IsUntouched readers.input × IsUntouched output)
 
 -- each line of the input has its answer, and nothing is told; or the run stopped, and why is told
-abbrev pub CaselessLinesEnd : Asked → FoldedTextReaders → Stream → Stream → ℕ → Type 0
+abbrev pub CaselessLinesEnd : LinesRun → FoldedTextReaders → Stream → Stream → ℕ → Type 0
 CaselessLinesEnd asked readers output error status =
     (WasStreamedFolded (AreAnsweredCaselessly asked status) readers output × IsUntouched error)
     ⊎ ((fault : CaselessLinesFault) × IsCaselessStop asked readers output fault × TellsAs (caseless_lines_telling fault) error status)

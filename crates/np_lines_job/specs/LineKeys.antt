@@ -14,7 +14,7 @@ use Rattle.np_jobs.specs.Wraps.{Wraps}
 use Rattle.np_jobs.specs.declared.faults.JobFault.{JobFault}
 use Rattle.np_jobs.specs.declared.faults.JobFault.TheVariants.{Text, WriteFailed}
 use Rattle.np_jobs.specs.declared.faults.TextFault.TheVariants as Texts
-use Rattle.np_lines_job.specs.declared.job.Asked.{Asked}
+use Rattle.np_lines_job.specs.declared.job.LinesRun.{LinesRun}
 
 -- how a fault of the run is told
 abbrev pub told_as : LinesFault → JobFault
@@ -34,14 +34,14 @@ abbrev pub lines_status : Bool → Bool → ℕ
 lines_status is_strict any_refused = if is_strict && any_refused then 3 else 0
 
 -- each line has its answer
-abbrev pub AreAnswered : Asked → ℕ → VersionData → Stream → Stream → Type 0
+abbrev pub AreAnswered : LinesRun → ℕ → VersionData → Stream → Stream → Type 0
 AreAnswered asked status v input output =
     (any_refused : Bool) × WasAnswered asked.wanted (Ok any_refused) v input output × (status ≡ lines_status asked.is_strict any_refused)
 
 -- the run ended early
-abbrev pub AreNotAnswered : Asked → JobFault → VersionData → Stream → Stream → Type 0
+abbrev pub AreNotAnswered : LinesRun → JobFault → VersionData → Stream → Stream → Type 0
 AreNotAnswered asked fault v input output = Wraps told_as (λ stopped. WasAnswered asked.wanted (Err stopped) v input output) fault
 
 -- each line of the input has its answer, and nothing is told; or the run stopped, and why is told
-abbrev pub LinesEnd : Asked → TextReaders → Stream → Stream → ℕ → Type 0
+abbrev pub LinesEnd : LinesRun → TextReaders → Stream → Stream → ℕ → Type 0
 LinesEnd asked readers output error status = StreamingEnds (AreAnswered asked) (AreNotAnswered asked) readers output error status

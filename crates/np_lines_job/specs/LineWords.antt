@@ -12,7 +12,7 @@ use Rattle.np_lines.specs.declared.lines.LineEnd.TheVariants.{Lf, Nul}
 use Rattle.np_words.specs.CaselessWords.{folded_names_of}
 use Rattle.np_words.specs.Words.{files_of, form_of, is_given, names_of}
 use Rattle.np_lines_job.specs.LineCommands.{lines_app}
-use Rattle.np_lines_job.specs.declared.job.Asked.{Asked as AskedRun}
+use Rattle.np_lines_job.specs.declared.job.LinesRun.{LinesRun}
 use Rattle.np_lines_job.specs.declared.words.LinesJob.{LinesJob}
 use Rattle.np_lines_job.specs.declared.words.LinesJob.TheVariants as Jobs
 
@@ -29,7 +29,7 @@ lines_version = codes "npss_lines 0.2.0\n"
 -- what is told in place of answers; or what is asked of a run, whether progress is shown, whether keys are caseless, and the files
 pub record AskedLines : Type 0 where
   pub notice : Option Notice
-  pub run : Option AskedRun
+  pub run : Option LinesRun
   pub shows_progress : Bool
   pub is_caseless : Bool
   pub files : List Text
@@ -39,7 +39,7 @@ abbrev pub noticed : Notice → AskedLines
 noticed notice = record { notice = Some notice; run = None; shows_progress = false; is_caseless = false; files = [] }
 
 -- answers
-abbrev pub answered : AskedRun → Bool → Bool → List Text → AskedLines
+abbrev pub answered : LinesRun → Bool → Bool → List Text → AskedLines
 answered run shows_progress is_caseless files =
     record { notice = None; run = Some run; shows_progress = shows_progress; is_caseless = is_caseless; files = files }
 
@@ -60,7 +60,7 @@ end_by false = Lf
 end_by true = Nul
 
 -- what is asked of a run under this form
-abbrev pub run_asked : Form → List Row → AskedRun
+abbrev pub run_asked : Form → List Row → LinesRun
 run_asked form rows = record { wanted = record { form = form; end = end_by (has_flag (codes "null") rows) }; is_strict = has_flag (codes "strict") rows }
 
 -- answers under this form, over these files

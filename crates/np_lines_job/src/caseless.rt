@@ -1,15 +1,16 @@
 //! The three files of a version are read, and then the lines of an input are answered by their caseless keys as they are
 //! read.
-ghost use Rattle.std.specs.Prelude.{◌≡◌, IfErr, IfOk};
+ghost use Rattle.std.specs.Prelude.{IfErr, IfOk};
 ghost use Rattle.np_caseless_job.specs.FoldedTexts.{AreFoldedTextReaders, FoldedTextReaders};
 ghost use Rattle.np_caseless_job.specs.FoldedVersions.{IsFoldedFault, WasFolded, folded_readers_of};
 ghost use Rattle.np_jobs.specs.Opening.{IsUnopened};
+ghost use Rattle.np_jobs.specs.Programs.{EndsOrIsUnopened};
 ghost use Rattle.np_jobs.specs.Streams.{stream_of};
 ghost use Rattle.np_jobs.specs.Wraps.{Wraps};
 ghost use Rattle.np_lines_job.specs.CaselessLineKeys.{AreAnsweredCaselessly, AreNotAnsweredCaselessly, CaselessLinesEnd, IsCaselessStop, WasStreamedFolded, of_three};
 ghost use Rattle.np_words.specs.CaselessWords.{folded_names_of};
 
-use crate::job::{Asked, status_of_run};
+use crate::job::{LinesRun, status_of_run};
 use crate::stops::{CaselessLinesFault, told_caselessly};
 use np_caseless::FoldedTable;
 use np_caseless_job::{CaselessFault, OpenFiles, open_folded, read_folded};
@@ -40,7 +41,7 @@ fn read_table<T: MadeTable, F: Read>(
 /// Answers the lines of the input as it is read.
 fn answered<T: MadeTable, I: Read, O: Write>(
     alloc: Global,
-    asked: Asked,
+    asked: LinesRun,
     table: &FoldedTable<T>,
     input: &mut Watched<I>,
     output: &mut Watched<O>,
@@ -63,7 +64,7 @@ fn answered<T: MadeTable, I: Read, O: Write>(
 /// Reads the three files of a version, and answers the lines of the input as it is read.
 fn streamed<T: MadeTable, F: Read, I: Read, O: Write>(
     alloc: Global,
-    asked: Asked,
+    asked: LinesRun,
     files: &mut OpenFiles<F>,
     input: &mut Watched<I>,
     output: &mut Watched<O>,
@@ -91,7 +92,7 @@ fn streamed<T: MadeTable, F: Read, I: Read, O: Write>(
 /// read of the input, and nothing is written.
 pub fn caseless_lines_job<F: Read, I: Read, O: Write, E: Write>(
     alloc: Global,
-    asked: Asked,
+    asked: LinesRun,
     files: &mut OpenFiles<F>,
     streams: &mut Streams<I, O, E>,
 ) -> u8
@@ -112,27 +113,25 @@ pub fn caseless_lines_job<F: Read, I: Read, O: Write, E: Write>(
     }
 }
 
-/// Opens the three files of a version, and answers the lines of the input. Answers the status; a refusal is told in a line
-/// on the error stream.
-///
-/// # Errors
-///
-/// The status that was told, where a file can't be opened.
+/// Opens the three files of a version, and answers the lines of the input. Answers the status; a refusal, or the first file
+/// that can't be opened, is told in a line on the error stream.
 pub(crate) fn run_over_folded<P: Opener, I: Read, O: Write, E: Write>(
     with: &Resources<'_, P>,
-    asked: Asked,
+    asked: LinesRun,
     files: &FoldedFiles,
     streams: &mut Streams<I, O, E>,
-) -> Result<u8, u8>
-    ensures done { IfOk result (λ status. (readers : FoldedTextReaders)
+) -> u8
+    ensures { EndsOrIsUnopened
+        ((readers : FoldedTextReaders)
         × AreFoldedTextReaders (P.gives with.now.opener.now) files.now (stream_of I.remaining streams.old.input streams.new.input) readers
         × CaselessLinesEnd asked readers (stream_of O.contents streams.old.output streams.new.output)
-        (stream_of E.contents streams.old.error streams.new.error) status) }
-    ensures unopened { IfErr result (IsUnopened (P.gives with.now.opener.now) (P.lacks with.now.opener.now) (folded_names_of files.now)
-        (stream_of E.contents streams.old.error streams.new.error)) }
-    ensures unread { IfErr result (λ status. streams.new.input ≡ streams.old.input) }
-    ensures unwritten { IfErr result (λ status. streams.new.output ≡ streams.old.output) }
+        (stream_of E.contents streams.old.error streams.new.error) result)
+        (IsUnopened (P.gives with.now.opener.now) (P.lacks with.now.opener.now) (folded_names_of files.now)
+        (stream_of E.contents streams.old.error streams.new.error) result)
+        streams.old streams.new }
 {
-    let mut opened = open_folded(with.opener, with.alloc, &mut streams.error, files)?;
-    Ok(caseless_lines_job(with.alloc, asked, &mut opened, streams))
+    match open_folded(with.opener, with.alloc, &mut streams.error, files) {
+        Ok(mut opened) => caseless_lines_job(with.alloc, asked, &mut opened, streams),
+        Err(status) => status,
+    }
 }

@@ -16,15 +16,15 @@ pub const REFUSED: u8 = 3;
 
 /// What is asked of a run.
 #[derive(Clone, Copy, Debug, PartialEq, Eq)]
-pub struct Asked {
+pub struct LinesRun {
     /// What is asked of each line.
     pub wanted: Wanted,
     /// Whether the status tells that a line was refused.
     pub is_strict: bool,
 }
 
-/// How a fault of a run is told.
-fn told(fault: LinesFault) -> JobFault
+/// The fault of the job that the fault of a run is.
+fn job_fault_of(fault: LinesFault) -> JobFault
     ensures { result ≡ told_as fault }
 {
     let fault = match fault {
@@ -51,7 +51,7 @@ pub(crate) fn status_of_run(is_strict: bool, any_refused: bool) -> u8
     }
 }
 
-impl StreamingJob for Asked {
+impl StreamingJob for LinesRun {
     ghost Runs = { AreAnswered };
 
     ghost Stops = { AreNotAnswered };
@@ -65,7 +65,7 @@ impl StreamingJob for Asked {
     ) -> Result<u8, JobFault> {
         match answer_lines(alloc, table, self.wanted, input, output) {
             Ok(any_refused) => Ok(status_of_run(self.is_strict, any_refused)),
-            Err(fault) => Err(told(fault)),
+            Err(fault) => Err(job_fault_of(fault)),
         }
     }
 }
@@ -80,7 +80,7 @@ impl StreamingJob for Asked {
 /// lines.
 pub fn lines_job<F: Read, I: Read, O: Write, E: Write>(
     alloc: Global,
-    asked: Asked,
+    asked: LinesRun,
     data_file: &mut Watched<F>,
     exclusions_file: &mut Watched<F>,
     input: &mut Watched<I>,

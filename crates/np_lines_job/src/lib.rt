@@ -11,7 +11,7 @@ mod stops;
 mod words;
 
 pub use caseless::caseless_lines_job;
-pub use job::{Asked, REFUSED, lines_job};
+pub use job::{LinesRun, REFUSED, lines_job};
 pub use program::{NpssLines, run_words, tell_refused};
 pub use progress::Progress;
 pub use stops::CaselessLinesFault;

@@ -9,7 +9,8 @@ use crate::words::{LinesJob, lines_usage_text, lines_version_text, parse_lines};
 use np_code_points::watched::Watched;
 use np_habits::{KnownWords, refusal_line, refused_in};
 use np_jobs::{
-    Opener, Program, Resources, Streaming, Streams, run_over_version, run_program, show_usage, tell,
+    Opener, Program, Resources, Streaming, Streams, parse_and_run, run_over_version, show_usage,
+    tell,
 };
 use np_words::WordsFault;
 use std::alloc::Global;
@@ -45,20 +46,20 @@ impl Program for NpssLines {
         with: &Resources<'_, P>,
         job: &LinesJob,
         streams: &mut Streams<I, O, E>,
-    ) -> Result<u8, u8> {
+    ) -> u8 {
         match job {
-            LinesJob::Help => Ok(show_usage(
+            LinesJob::Help => show_usage(
                 with.alloc,
                 &mut streams.output,
                 &mut streams.error,
                 lines_usage_text(),
-            )),
-            LinesJob::Version => Ok(show_usage(
+            ),
+            LinesJob::Version => show_usage(
                 with.alloc,
                 &mut streams.output,
                 &mut streams.error,
                 lines_version_text(),
-            )),
+            ),
             LinesJob::Answer {
                 asked,
                 shows_progress: _,
@@ -108,5 +109,5 @@ pub fn run_words<P: Opener, I: Read, O: Write, E: Write>(
         (stream_of I.remaining streams.old.input streams.new.input) (stream_of O.contents streams.old.output streams.new.output)
         (stream_of E.contents streams.old.error streams.new.error) result }
 {
-    run_program::<NpssLines, P, I, O, E>(with, words, streams)
+    parse_and_run::<NpssLines, P, I, O, E>(with, words, streams)
 }

@@ -8,7 +8,7 @@ ghost use Rattle.np_words.specs.Words.{names_of};
 mod command;
 mod usage;
 
-use crate::job::Asked;
+use crate::job::LinesRun;
 use clap::ArgMatches;
 use command::matches_in;
 use np_code_points::Form;
@@ -27,13 +27,13 @@ pub enum LinesJob {
     Version,
     /// The answers to lines. Where `shows_progress`, how far it is is told to a terminal.
     Answer {
-        asked: Asked,
+        asked: LinesRun,
         shows_progress: bool,
         files: VersionFiles,
     },
     /// The answers to lines with their caseless keys.
     AnswerCaselessly {
-        asked: Asked,
+        asked: LinesRun,
         shows_progress: bool,
         files: FoldedFiles,
     },
@@ -70,11 +70,11 @@ fn end_of(is_null: bool) -> LineEnd
 }
 
 /// What is asked of a run by the flags and the form that the words have.
-fn asked_with(found: &ArgMatches<'_>, form: Form) -> Asked
+fn asked_with(found: &ArgMatches<'_>, form: Form) -> LinesRun
     ensures { result ≡ run_asked form (rows_of (found_of found.now)) }
 {
     let end = end_of(flag_in(found, "null"));
-    Asked {
+    LinesRun {
         wanted: Wanted { form, end },
         is_strict: flag_in(found, "strict"),
     }

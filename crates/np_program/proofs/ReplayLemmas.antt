@@ -51,7 +51,8 @@ pub told_whole : {T : Type 0} (model : T → VersionData) (tables : List T) (for
     → HasOneRun model tables form schedule
     → InTheRun model tables form schedule (λ replies world. replies_of report ≡ replies)
     → InTheRun model tables form schedule (λ replies world. (i : ℕ) → index_at report i ≡ option_map (λ node. node.index) (slice_get world.nodes i))
-    → InTheRun model tables form schedule (λ replies world. (i : ℕ) → option_map (λ node. texts_in node.entries) (node_at report i) ≡ option_map (λ node. node.strings) (slice_get world.nodes i))
+    → InTheRun model tables form schedule
+    (λ replies world. (i : ℕ) → option_map (λ node. texts_in node.entries) (node_at report i) ≡ option_map (λ node. node.strings) (slice_get world.nodes i))
     → ((last : VersionData) → IsLast (map model tables) last → (i : ℕ) → IfSome (node_at report i) (λ node. AreKeysUnder last form node.entries))
     → text ≡ text_of_report report → IsReplay form (map model tables) schedule text
 told_whole model tables form schedule report text some run replies indices strings keys is =
@@ -71,8 +72,10 @@ told_whole model tables form schedule report text some run replies indices strin
     }
 
 -- what is refused over versions that were built, behind a schedule whose mark was taken away
-pub refused_of_files : {D T : Type 0} (tells : D → Option (List ℕ)) (model : T → VersionData) (cleared old new : Watched D) (readers : List VersionReaders) (tables slice : List T) (fault : JobFault)
-    → device_of cleared ≡ device_of old → slice ≡ tables → WereBuilt readers (map model tables) → LacksReport (stream_of tells cleared new) (map model slice) fault
+pub refused_of_files : {D T : Type 0} (tells : D → Option (List ℕ)) (model : T → VersionData) (cleared old new : Watched D) (readers : List VersionReaders)
+    (tables slice : List T) (fault : JobFault)
+    → device_of cleared ≡ device_of old → slice ≡ tables → WereBuilt readers (map model tables)
+    → LacksReport (stream_of tells cleared new) (map model slice) fault
     → RefusesReplay (record { schedule_file = stream_of tells old new; versions = readers }) fault
 refused_of_files tells model cleared old new readers tables slice fault device same built lacks =
     let half = subst (λ vs. LacksReport (stream_of tells cleared new) (map model vs) fault) same lacks in

@@ -12,7 +12,7 @@ use np_chain::{Chain, ChainFault};
 use np_code_points::input::read_whole;
 use np_code_points::watched::Watched;
 use np_code_points::{Form, Memory};
-use np_jobs::{JobFault, JobTable, Made, MadeTable, ReplayFault, finish, read_tables};
+use np_jobs::{JobFault, JobOutput, JobTable, MadeTable, ReplayFault, finish, read_tables};
 use np_versions::NormTable;
 use np_world::{Schedule, ScheduleFault, read_schedule, replay, report_text};
 use std::alloc::Global;
@@ -68,7 +68,7 @@ fn made_over_chain<T: NormTable, F: Read>(
     form: Form,
     chain: &Chain<'_, T>,
     schedule_file: &mut Watched<F>,
-) -> Result<Made, ReplayFault>
+) -> Result<JobOutput, ReplayFault>
     ensures made { IfOk result (MakesOverChain form (map T.model chain.now) (stream_of F.remaining schedule_file.old schedule_file.new)) }
     ensures chain { IfErr result (λ fault. IsChain (map T.model chain.now)) }
     ensures refused { IfErr result (LacksSchedule (stream_of F.remaining schedule_file.old schedule_file.new) (length (map T.model chain.now))) }
@@ -77,7 +77,7 @@ fn made_over_chain<T: NormTable, F: Read>(
     chain.meets_conditions();
     let schedule = schedule_in(alloc, chain.len(), schedule_file)?;
     match report_of(alloc, form, chain, &schedule) {
-        Ok(text) => Ok(Made { text, is_yes: true }),
+        Ok(text) => Ok(JobOutput { text, is_yes: true }),
         Err(_) => Err(ReplayFault::Memory),
     }
 }
@@ -88,7 +88,7 @@ fn made_over<T: NormTable, F: Read>(
     form: Form,
     tables: &[T],
     schedule_file: &mut Watched<F>,
-) -> Result<Made, JobFault>
+) -> Result<JobOutput, JobFault>
     requires some { 0 < length tables.now }
     requires clear { has_failed schedule_file.old ≡ false }
     ensures made { IfOk result (MakesOverChain form (map T.model tables.now) (stream_of F.remaining schedule_file.old schedule_file.new)) }
@@ -107,7 +107,7 @@ fn made_of_files<T: MadeTable, F: Read>(
     form: Form,
     schedule_file: &mut Watched<F>,
     files: &mut [Watched<F>],
-) -> Result<Made, JobFault>
+) -> Result<JobOutput, JobFault>
     requires { 2 ≤ length files.old }
     ensures made { IfOk result (λ m. MakesReplay form (record {
       schedule_file = stream_of F.remaining schedule_file.old schedule_file.new;

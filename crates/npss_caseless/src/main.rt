@@ -5,7 +5,7 @@ use np_caseless_job::{NpssCaseless, caseless_usage_text, parse_words, tell_refus
 use np_code_points::watched::Watched;
 use np_habits::{PipedOutput, QuietError};
 use np_jobs::{
-    JobFault, Resources, Streams, SystemFiles, refuse, refuse_words, run_found, take_standard,
+    JobFault, Resources, Streams, SystemFiles, refuse, refuse_words, run_parsed, take_standard,
 };
 use std::cell::Cell;
 use std::process::ExitCode;
@@ -42,6 +42,6 @@ fn main(rt: HostRuntime) -> ExitCode {
         opener: &SystemFiles::new(&rt),
     };
     tell_refused(alloc, &mut streams.error, words.as_slice(), &found);
-    let status = run_found::<NpssCaseless, _, _, _, _>(&with, &found, &mut streams);
+    let status = run_parsed::<NpssCaseless, _, _, _, _>(&with, &found, &mut streams);
     ExitCode::from(status)
 }

@@ -4,7 +4,7 @@
 use np_code_points::watched::Watched;
 use np_habits::{PipedOutput, QuietError};
 use np_jobs::{
-    JobFault, Resources, Streams, SystemFiles, refuse, refuse_words, run_found, take_standard,
+    JobFault, Resources, Streams, SystemFiles, refuse, refuse_words, run_parsed, take_standard,
 };
 use np_lines::LineEnd;
 use np_lines_job::{LinesJob, NpssLines, Progress, lines_usage_text, parse_lines, tell_refused};
@@ -82,6 +82,6 @@ fn main(rt: HostRuntime) -> ExitCode {
         opener: &SystemFiles::new(&rt),
     };
     tell_refused(alloc, &mut streams.error, words.as_slice(), &found);
-    let status = run_found::<NpssLines, _, _, _, _>(&with, &found, &mut streams);
+    let status = run_parsed::<NpssLines, _, _, _, _>(&with, &found, &mut streams);
     ExitCode::from(status)
 }

@@ -61,7 +61,7 @@ def _check_shard(store: Store, log: Log, shard: int, place: int) -> None:
         raise LogTrimmed(place, begin)
     total = records.NOTHING_READ
     for at, body in whole(log, shard):
-        total = snapshots.load(log, shard, at).told.past if at == begin else records.sum_behind(total, at, records.sum_of(body))
+        total = snapshots.load(log, shard, at).snapshot.past if at == begin else records.sum_behind(total, at, records.sum_of(body))
         if at >= place:
             break
     if total != wanted:

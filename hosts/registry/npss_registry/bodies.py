@@ -31,8 +31,8 @@ class Fault(Exception):
 
 async def body_of(request: Request, most: int) -> bytes:
     """The body of a request. Fault 413 of one with more bytes, 408 of one that comes too slowly."""
-    told = request.headers.get("content-length", "")
-    if told.isdecimal() and int(told) > most:
+    length = request.headers.get("content-length", "")
+    if length.isdecimal() and int(length) > most:
         raise _too_large(most)
     try:
         async with asyncio.timeout(SECONDS):
@@ -59,19 +59,19 @@ async def object_of(request: Request, most: int) -> dict[str, Any]:
     """The JSON object of a request. Fault 400 of what is none."""
     body = await body_of(request, most)
     try:
-        told = json.loads(body)
+        fields = json.loads(body)
     except RecursionError as error:
         raise Fault(400, "the body's JSON is nested too deep") from error
     except ValueError as error:
         raise Fault(400, f"the body is no JSON: {error}") from error
-    if not isinstance(told, dict):
+    if not isinstance(fields, dict):
         raise Fault(400, "the body is no JSON object")
-    return told
+    return fields
 
 
-def text_of(told: dict[str, Any], name: str) -> str:
+def text_of(fields: dict[str, Any], name: str) -> str:
     """A text that has to be there."""
-    found = told.get(name)
+    found = fields.get(name)
     if not isinstance(found, str):
         raise Fault(400, f"the body wants a text {name!r}")
     return _whole(found, name)
@@ -85,9 +85,9 @@ def _whole(text: str, name: str) -> str:
     return text
 
 
-def owner_of(told: dict[str, Any]) -> str:
+def owner_of(fields: dict[str, Any]) -> str:
     """The owner of a claim or a forget."""
-    owner = text_of(told, "owner")
+    owner = text_of(fields, "owner")
     if not 0 < len(owner.encode()) <= MOST_OWNER:
         raise Fault(422, f"an owner has 1 to {MOST_OWNER} bytes")
     return owner
@@ -97,9 +97,9 @@ async def fields_of(request: Request, *names: str) -> list[str]:
     """The fields of a form that a page sent."""
     body = await body_of(request, MOST_BODY)
     try:
-        told = parse_qs(body.decode(), keep_blank_values=True, errors="strict", max_num_fields=MOST_FIELDS)
+        fields = parse_qs(body.decode(), keep_blank_values=True, errors="strict", max_num_fields=MOST_FIELDS)
     except UnicodeDecodeError as error:
         raise Fault(400, "the form is not UTF-8") from error
     except ValueError as error:
         raise Fault(400, f"the form is none: {error}") from error
-    return [told.get(name, [""])[0] for name in names]
+    return [fields.get(name, [""])[0] for name in names]

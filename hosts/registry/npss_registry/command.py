@@ -24,7 +24,7 @@ from npss_registry.opening import opened
 from npss_registry.records import FORMS, Setup
 from npss_registry.records import MOST_BYTES as MOST_BYTES_OF_NAME
 from npss_registry.registry import MOST_SHARDS
-from npss_registry.registry import told as told_setup
+from npss_registry.registry import described
 from npss_registry.relog import relog
 from npss_registry.replay import MOST_BYTES, MOST_EVENTS
 from npss_registry.store import Store
@@ -90,7 +90,7 @@ def _lowered(word: str) -> Any:
     return word.lower()
 
 
-def told(outcome: Outcome) -> str:
+def outcome_line(outcome: Outcome) -> str:
     """What became of a claim or a forget, as a line."""
     holder = outcome.holder
     if holder is None:
@@ -109,19 +109,19 @@ def _init(words: argparse.Namespace) -> int:
         setup = Setup(words.form or "nfc", 65536 if words.room is None else words.room, 1 if words.shards is None else words.shards,
                       words.equivalents, most_bytes=words.most_bytes or 0, caseless=words.caseless)
     made = init(words.store, version_of(words), setup, words.log or f"{os.path.basename(words.store)}.log")
-    print(told_setup(replace(made, name="")))
+    print(described(replace(made, name="")))
     return DONE
 
 
 def _claim(words: argparse.Namespace, registry: Registry) -> int:
     outcome = registry.claim(name_of(words.name), words.owner)
-    print(told(outcome))
+    print(outcome_line(outcome))
     return DONE if outcome.what == "registered" else NO
 
 
 def _forget(words: argparse.Namespace, registry: Registry) -> int:
     outcome = registry.forget(name_of(words.name), words.owner)
-    print(told(outcome))
+    print(outcome_line(outcome))
     return DONE if outcome.what == "forgotten" else NO
 
 

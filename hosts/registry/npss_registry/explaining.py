@@ -81,19 +81,19 @@ def hex_of(code: int) -> str:
     return f"{code:04X}"
 
 
-def _others(character: str, told: Optional[str]) -> str:
+def _others(character: str, mapped: Optional[str]) -> str:
     """The code points of what is told of a character, where that isn't the character itself."""
-    return " ".join(hex_of(ord(one)) for one in told) if told is not None and told != character else ""
+    return " ".join(hex_of(ord(one)) for one in mapped) if mapped is not None and mapped != character else ""
 
 
 def side(tables: Tables, names: Names, setup: Setup, text: str) -> Side:
     """A name as the page shows it."""
     rows = []
     for character in text[:MOST_ROWS]:
-        told = tables.property(character)
+        facts = tables.property(character)
         decomposition = tables.decomposition(character, setup.form in ("nfkd", "nfkc"))
         folding = tables.folding(character) if setup.caseless else None
-        rows.append(Row(ord(character), names.name(ord(character)), told.assigned, told.combining_class, told.mapping,
+        rows.append(Row(ord(character), names.name(ord(character)), facts.assigned, facts.combining_class, facts.mapping,
                         _others(character, decomposition), _others(character, folding)))
     try:
         return Side(text, rows, tables.key(text, setup.form, setup.caseless), None)

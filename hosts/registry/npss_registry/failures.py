@@ -15,7 +15,7 @@ PACKAGES = {"redis": "python3-redis", "psycopg": "python3-psycopg", "starlette":
             "prometheus_client": "python3-prometheus-client"}
 
 
-def told(path: str, error: sqlite3.Error, otherwise: str) -> RegistryError:
+def store_error(path: str, error: sqlite3.Error, otherwise: str) -> RegistryError:
     """StoreAway where SQLite can't work on the file of a store just now; else a StoreError by other words."""
     # The low byte of SQLite's number tells the kind. Python tells none of its own failures, as of a text that is none.
     if getattr(error, "sqlite_errorcode", 0) & 0xFF in _PASSING:
@@ -29,7 +29,7 @@ def plainly(path: str) -> Iterator[None]:
     try:
         yield
     except sqlite3.Error as error:
-        raise told(path, error, "the store is damaged") from error
+        raise store_error(path, error, "the store is damaged") from error
     except (zlib.error, UnicodeDecodeError) as error:
         raise StoreError(f"{path}: the store is damaged: {error}") from error
 

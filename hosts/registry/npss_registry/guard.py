@@ -41,8 +41,8 @@ def _host_in(scope: Scope) -> str:
     """The host that a request names, without its port."""
     for name, value in scope["headers"]:
         if name == b"host":
-            told: str = value.decode("latin-1").strip().lower()
-            return told.partition("]")[0] + "]" if told.startswith("[") else told.partition(":")[0]
+            host: str = value.decode("latin-1").strip().lower()
+            return host.partition("]")[0] + "]" if host.startswith("[") else host.partition(":")[0]
     return ""
 
 
@@ -60,8 +60,8 @@ class Guard:
 
         async def guarded(message: MutableMapping[str, Any]) -> None:
             if message["type"] == "http.response.start":
-                told = [name for name, _ in message.get("headers", [])]
-                message["headers"] = [*message.get("headers", []), *(one for one in HEADERS if one[0] not in told)]
+                names = [name for name, _ in message.get("headers", [])]
+                message["headers"] = [*message.get("headers", []), *(one for one in HEADERS if one[0] not in names)]
             await send(message)
 
         try:

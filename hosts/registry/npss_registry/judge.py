@@ -20,7 +20,7 @@ from npss_registry.examine import Examiner
 from npss_registry.ledger import Ledger, Registered
 from npss_registry.logs import Log, open_log, shown
 from npss_registry.records import Setup
-from npss_registry.registry import setup_of, told
+from npss_registry.registry import described, setup_of
 from npss_registry.replay import MOST_BYTES, MOST_EVENTS, Limits, Replay, first_apart, parts, scheduled
 from npss_registry.shards import Shard, lacks
 from npss_registry.store import Registration, ShardRow, Store, Version
@@ -66,7 +66,7 @@ class Judge:
                 raise NoLog(shown(self._stores[0].log))
             alike = [store for store in self._stores if store.setup.caseless == setup.caseless]
             if not alike:
-                raise Differs(f"{self._stores[0].path}: it was set up as {told(self._stores[0].setup)}; the log as {told(setup)}")
+                raise Differs(f"{self._stores[0].path}: it was set up as {described(self._stores[0].setup)}; the log as {described(setup)}")
             chain, tables = _chain([store.versions() for store in alike], setup.caseless)
             files = _write_files(folder, chain)
             replay = Replay(program, folder, setup.form, setup.room, [name for two in files for name in two[:2]])
@@ -113,7 +113,7 @@ class Judge:
         """Whether a store is one of the log's."""
         self._find(store.path, [f"the file is damaged: {fault}" for fault in store.faults()])
         if store.setup != self._world.setup:
-            self._find(store.path, [f"it was set up as {told(store.setup)}; the log as {told(self._world.setup)}"])
+            self._find(store.path, [f"it was set up as {described(store.setup)}; the log as {described(self._world.setup)}"])
             return False
         versions = zip(store.versions(), store.version_sums())
         if any((version.sums, version.tables().count) != found for version, found in versions):

@@ -75,14 +75,14 @@ class Ledger:
     def _begun(self, log: Log, examiner: Examiner, place: int) -> bytes:
         """Begins with what was registered at the log's first record; the running sum there."""
         self.begin = place
-        names, told = snapshots.load(log, examiner.shard, place)
+        names, snapshot = snapshots.load(log, examiner.shard, place)
         for name in names:
             claim = Claim(records.message(self._setup.form, name.string, name.key), name.owner, name.string, name.key, name.caseless)
             examiner.claim(name.place, claim)
             self._claim(name.place, claim)
         if len(self.all) != len(names):
             raise LogBroken(place, "what stands beside the log as registered there can't be so at once: some names are too many")
-        return told.past
+        return snapshot.past
 
     def names(self) -> list[Name]:
         """What is registered in the end, in the order of its places."""

@@ -25,7 +25,7 @@ class Lock:
         self._lock = _locked(f"{path}-lock", path)
 
     @property
-    def told(self) -> str:
+    def mark(self) -> str:
         """What was told of the last opening."""
         return os.pread(self._lock, 100, 0).decode()
 

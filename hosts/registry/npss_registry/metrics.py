@@ -36,19 +36,19 @@ class _Gauges(Collector):
         self._overview = overview
 
     def collect(self) -> Iterable[Metric]:
-        told = self._overview()
+        overview = self._overview()
         for row in _ROWS:
             gauge = GaugeMetricFamily(f"npss_registry_{row.name}", row.what, labels=["shard"])
-            for one in told.shards:
+            for one in overview.shards:
                 value = row.value(one)
                 if value is not None:
                     gauge.add_metric([str(one.shard)], value)
             yield gauge
-        for name, what, state in (("log_up", "Whether the log can be reached.", told.log_away is None),
-                                  ("claims_up", "Whether claims can be expected to be registered.", told.claims),
-                                  ("log_age_seconds", "How long ago the log told its last places.", told.age),
-                                  ("versions", "How many versions of Unicode the store has used.", told.versions),
-                                  ("assigned_code_points", "How many code points the version in use assigns.", told.assigned)):
+        for name, what, state in (("log_up", "Whether the log can be reached.", overview.log_away is None),
+                                  ("claims_up", "Whether claims can be expected to be registered.", overview.claims),
+                                  ("log_age_seconds", "How long ago the log told its last places.", overview.age),
+                                  ("versions", "How many versions of Unicode the store has used.", overview.versions),
+                                  ("assigned_code_points", "How many code points the version in use assigns.", overview.assigned)):
             if state is not None:
                 yield GaugeMetricFamily(f"npss_registry_{name}", what, value=float(state))
 
@@ -85,8 +85,8 @@ class Metrics:
     def untold(self) -> dict[str, int]:
         """What was refused since this was asked last, by kind."""
         with self._lock:
-            told, self._untold = self._untold, {}
-        return told
+            counts, self._untold = self._untold, {}
+        return counts
 
     def text(self) -> bytes:
         return generate_latest(self._registry)

@@ -50,8 +50,8 @@ def table(heads: Sequence[str], rows: Sequence[Sequence[str]]) -> str:
 
 def shown(text: str) -> str:
     """A text of somebody else, which keeps its direction to itself; what can't be seen in it, or turns directions, is spelled out."""
-    told = "".join(escape(one) if _is_plain(one) else f'<span class="code">[{hex_of(ord(one))}]</span>' for one in text[:MOST_SHOWN])
-    return f"<bdi>{told}</bdi>" + (" .." if len(text) > MOST_SHOWN else "")
+    marked = "".join(escape(one) if _is_plain(one) else f'<span class="code">[{hex_of(ord(one))}]</span>' for one in text[:MOST_SHOWN])
+    return f"<bdi>{marked}</bdi>" + (" .." if len(text) > MOST_SHOWN else "")
 
 
 def _is_plain(one: str) -> bool:
@@ -62,27 +62,27 @@ def _field(name: str, label: str, value: str = "") -> str:
     return f'<label>{label} <input type="text" dir="auto" name="{name}" value="{escape(value)}"></label>'
 
 
-def home(told: Overview) -> str:
+def home(overview: Overview) -> str:
     """The search, the question why, and how far this node has read."""
     status = table(("shard", "read to place", "last place", "behind", "registered", "parked"),
                    [(str(row.shard), str(row.place), "unknown" if row.last is None else str(row.last), _lag(row), str(row.registered),
-                     str(row.parked)) for row in told.shards])
+                     str(row.parked)) for row in overview.shards])
     return page(
         "Registry of names",
         f'<h2>Who has a name?</h2><form method="post" action="/search">{_field("name", "Name")}<button>Search</button></form>',
         f'<h2>Are two names the same?</h2><form method="post" action="/why">{_field("left", "One")}{_field("right", "Other")}'
-        f"<button>Compare</button></form><p>{_note(told.caseless)}</p>",
-        f"<h2>This node</h2><p>Node <span class=code>{escape(told.node)}</span>, {'caseless, ' if told.caseless else ''}form "
-        f"{escape(told.form.upper())}; its version of Unicode assigns {told.assigned} code points. A parked name has a code point that this "
-        f"version lacks: it is registered, and is taken after an upgrade.</p>{_log(told)}{status}{_parked(told)}", home=True)
+        f"<button>Compare</button></form><p>{_note(overview.caseless)}</p>",
+        f"<h2>This node</h2><p>Node <span class=code>{escape(overview.node)}</span>, {'caseless, ' if overview.caseless else ''}form "
+        f"{escape(overview.form.upper())}; its version of Unicode assigns {overview.assigned} code points. A parked name has a code point that this "
+        f"version lacks: it is registered, and is taken after an upgrade.</p>{_log(overview)}{status}{_parked(overview)}", home=True)
 
 
-def _log(told: Overview) -> str:
+def _log(overview: Overview) -> str:
     """Whether the log is there, and how old its news is."""
-    age = "" if told.age is None else f" The log told its last places {told.age:.0f} s ago."
-    if told.log_away is not None:
-        return f'<p class="no">The log is away, so no name can be claimed: {shown(told.log_away)}.{age}</p>'
-    if not told.claims:
+    age = "" if overview.age is None else f" The log told its last places {overview.age:.0f} s ago."
+    if overview.log_away is not None:
+        return f'<p class="no">The log is away, so no name can be claimed: {shown(overview.log_away)}.{age}</p>'
+    if not overview.claims:
         return f'<p class="no">No name can be claimed at the moment.{age}</p>'
     return f'<p class="yes">Names can be looked up and claimed.{age}</p>'
 
@@ -93,22 +93,22 @@ def _lag(row: ShardState) -> str:
     return f'<span class="no">{row.behind}</span>' if row.behind else '<span class="yes">no</span>'
 
 
-def _parked(told: Overview) -> str:
+def _parked(overview: Overview) -> str:
     """The first of the parked names, with their code points: no font has yet what is parked."""
-    return f"<h2>Parked</h2>{table(('name', 'code points'), [(shown(name), _codes(name)) for _, name in told.parked])}" if told.parked else ""
+    return f"<h2>Parked</h2>{table(('name', 'code points'), [(shown(name), _codes(name)) for _, name in overview.parked])}" if overview.parked else ""
 
 
 def search(name: str, found: Sequence[Registration], refusal: str = "") -> str:
     """Who has a name, or an equivalent one."""
     if refusal:
-        told = f'<p class="no">This node can\'t look it up: {escape(refusal)}.</p>'
+        answer = f'<p class="no">This node can\'t look it up: {escape(refusal)}.</p>'
     elif not found:
-        told = "<p>Nobody has it.</p>"
+        answer = "<p>Nobody has it.</p>"
     else:
-        told = table(("name", "code points", "owner", "place", "parked"),
-                     [(shown(one.string), _codes(one.string), shown(one.owner), str(one.place), "yes" if one.parked else "no") for one in found])
+        answer = table(("name", "code points", "owner", "place", "parked"),
+                       [(shown(one.string), _codes(one.string), shown(one.owner), str(one.place), "yes" if one.parked else "no") for one in found])
     form = f'<form method="post" action="/search">{_field("name", "Name", name)}<button>Search</button></form>'
-    return page("Who has this name?", form, told)
+    return page("Who has this name?", form, answer)
 
 
 def _codes(text: str, marked: Optional[int] = None) -> str:

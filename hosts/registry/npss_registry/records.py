@@ -143,28 +143,28 @@ def form_of(name: object) -> Form:
 def spelled(record: Record) -> bytes:
     """The bytes of a record, JSON that a person can read. No two calls answer the same bytes."""
     if isinstance(record, Claim):
-        told: dict[str, object] = {"claim": base64.b64encode(record.message).decode(), "owner": record.owner}
+        fields: dict[str, object] = {"claim": base64.b64encode(record.message).decode(), "owner": record.owner}
         if record.caseless is not None:
-            told["caseless"] = record.caseless
+            fields["caseless"] = record.caseless
     elif isinstance(record, Forget):
-        told = {"forget": record.string, "place": record.place}
+        fields = {"forget": record.string, "place": record.place}
     elif isinstance(record, End):
-        told = {"end": record.log}
+        fields = {"end": record.log}
     elif isinstance(record, SnapshotSum):
-        told = {"snapshot": record.place, "names": record.names, "sum": record.sum.hex(), "past": record.past.hex()}
+        fields = {"snapshot": record.place, "names": record.names, "sum": record.sum.hex(), "past": record.past.hex()}
     elif isinstance(record, Snapshot):
-        told = {**_told(record.setup), "setup": _SNAPSHOT[record.setup.caseless]}
+        fields = {**_fields_of(record.setup), "setup": _SNAPSHOT[record.setup.caseless]}
     else:
-        told = {**_told(record), "setup": _SETUP[record.caseless], "kept": record.kept}
-    told["nonce"] = base64.b64encode(secrets.token_bytes(_NONCE)).decode()
-    return _ENCODER.encode(told).encode()
+        fields = {**_fields_of(record), "setup": _SETUP[record.caseless], "kept": record.kept}
+    fields["nonce"] = base64.b64encode(secrets.token_bytes(_NONCE)).decode()
+    return _ENCODER.encode(fields).encode()
 
 
-def _told(setup: Setup) -> dict[str, object]:
+def _fields_of(setup: Setup) -> dict[str, object]:
     """What a setup tells, and a snapshot once more."""
-    told: dict[str, object] = {"setup": 0, "form": setup.form, "room": setup.room, "shards": setup.shards, "equivalents": setup.equivalents,
-                               "name": setup.name, "before": setup.before, "most_bytes": setup.most_bytes}
-    return {**told, "caseless": True} if setup.caseless else told
+    fields: dict[str, object] = {"setup": 0, "form": setup.form, "room": setup.room, "shards": setup.shards, "equivalents": setup.equivalents,
+                                 "name": setup.name, "before": setup.before, "most_bytes": setup.most_bytes}
+    return {**fields, "caseless": True} if setup.caseless else fields
 
 
 def read(place: int, body: bytes, layout: int = 1, caseless: bool = False) -> Record:
@@ -174,56 +174,56 @@ def read(place: int, body: bytes, layout: int = 1, caseless: bool = False) -> Re
     """
     try:
         text = body.decode()
-        told, end = _DECODER.raw_decode(text)
+        fields, end = _DECODER.raw_decode(text)
         if end != len(text):
             raise ValueError("more stands behind it")
         if layout != 1:
-            _check_nonce(told)
-        return _record(told, caseless)
+            _check_nonce(fields)
+        return _record(fields, caseless)
     except (KeyError, RecursionError, TypeError, ValueError) as error:
         raise LogBroken(place, f"what stands there is no record: {error!r}") from error
 
 
-def _record(told: dict[str, object], caseless: bool) -> Record:
+def _record(fields: dict[str, object], caseless: bool) -> Record:
     """The record of what was spelled. KeyError, TypeError or ValueError where it is none."""
-    if "claim" in told:
-        key = _text(told["caseless"]) if caseless else None
-        return claim_of(base64.b64decode(_text(told["claim"]), validate=True), _text(told["owner"]), key)
-    if "forget" in told:
-        return Forget(_text(told["forget"]), _number(told["place"]))
-    if "end" in told:
-        _check_nonce(told)
-        return End(_text(told["end"]))
-    if "snapshot" in told:
-        _check_nonce(told)
-        return SnapshotSum(_number(told["snapshot"]), _number(told["names"]), _sum(told["sum"]), _sum(told["past"]))
-    return _setup(told)
+    if "claim" in fields:
+        key = _text(fields["caseless"]) if caseless else None
+        return claim_of(base64.b64decode(_text(fields["claim"]), validate=True), _text(fields["owner"]), key)
+    if "forget" in fields:
+        return Forget(_text(fields["forget"]), _number(fields["place"]))
+    if "end" in fields:
+        _check_nonce(fields)
+        return End(_text(fields["end"]))
+    if "snapshot" in fields:
+        _check_nonce(fields)
+        return SnapshotSum(_number(fields["snapshot"]), _number(fields["names"]), _sum(fields["sum"]), _sum(fields["past"]))
+    return _setup(fields)
 
 
-def _setup(told: dict[str, object]) -> Union[Setup, Snapshot]:
-    if not isinstance(told["equivalents"], bool):
-        raise TypeError(f"{told['equivalents']!r} is neither true nor false")
-    first = Setup(form_of(told["form"]), _number(told["room"]), _number(told["shards"]), told["equivalents"])
-    if told["setup"] == 1:
+def _setup(fields: dict[str, object]) -> Union[Setup, Snapshot]:
+    if not isinstance(fields["equivalents"], bool):
+        raise TypeError(f"{fields['equivalents']!r} is neither true nor false")
+    first = Setup(form_of(fields["form"]), _number(fields["room"]), _number(fields["shards"]), fields["equivalents"])
+    if fields["setup"] == 1:
         return first
-    caseless = _is_caseless(told, first)
-    if told["setup"] not in (_SETUP[caseless], _SNAPSHOT[caseless]):
+    caseless = _is_caseless(fields, first)
+    if fields["setup"] not in (_SETUP[caseless], _SNAPSHOT[caseless]):
         raise ValueError("the setup is of another layout")
-    _check_nonce(told)
-    most = _number(told.get("most_bytes", MOST_BYTES))
+    _check_nonce(fields)
+    most = _number(fields.get("most_bytes", MOST_BYTES))
     if not 0 < most <= MOST_BYTES:
         raise ValueError(f"a name has 1 to {MOST_BYTES} bytes at most, not {most}")
-    found = replace(first, name=_text(told["name"]), before=_text(told["before"]), most_bytes=most, caseless=caseless)
-    if told["setup"] == _SNAPSHOT[caseless]:  # of a log whose setup is of the first layout too, which has no name
+    found = replace(first, name=_text(fields["name"]), before=_text(fields["before"]), most_bytes=most, caseless=caseless)
+    if fields["setup"] == _SNAPSHOT[caseless]:  # of a log whose setup is of the first layout too, which has no name
         return Snapshot(found)
     if not found.name:
         raise ValueError("the log's name is empty")
-    return replace(found, kept=_number(told["kept"]))
+    return replace(found, kept=_number(fields["kept"]))
 
 
-def _is_caseless(told: dict[str, object], first: Setup) -> bool:
+def _is_caseless(fields: dict[str, object], first: Setup) -> bool:
     """Whether a setup is that of a caseless log, which refuses equivalents."""
-    found = told.get("caseless", False)
+    found = fields.get("caseless", False)
     if not isinstance(found, bool):
         raise TypeError(f"{found!r} is neither true nor false")
     if found and first.equivalents:
@@ -231,33 +231,33 @@ def _is_caseless(told: dict[str, object], first: Setup) -> bool:
     return found
 
 
-def _check_nonce(told: dict[str, object]) -> None:
+def _check_nonce(fields: dict[str, object]) -> None:
     """Random bytes stand in a record. Nothing is read from them."""
-    nonce = told["nonce"]
+    nonce = fields["nonce"]
     if not isinstance(nonce, str) or len(nonce) != _SPELLED_NONCE:
         raise ValueError("its random bytes are not whole")
 
 
-def _text(told: object) -> str:
+def _text(value: object) -> str:
     """A text of a record, which a store can hold."""
-    if not isinstance(told, str):
-        raise TypeError(f"{told!r} is no text")
-    told.encode()
-    return told
+    if not isinstance(value, str):
+        raise TypeError(f"{value!r} is no text")
+    value.encode()
+    return value
 
 
-def _number(told: object) -> int:
+def _number(value: object) -> int:
     """A number of a record, which a store can hold."""
-    if not isinstance(told, int) or isinstance(told, bool) or not 0 <= told < 1 << 63:
-        raise ValueError(f"{told!r} is no number")
-    return told
+    if not isinstance(value, int) or isinstance(value, bool) or not 0 <= value < 1 << 63:
+        raise ValueError(f"{value!r} is no number")
+    return value
 
 
-def _sum(told: object) -> bytes:
+def _sum(value: object) -> bytes:
     """A sum of a record."""
-    found = bytes.fromhex(_text(told))
+    found = bytes.fromhex(_text(value))
     if len(found) != len(NOTHING_READ):
-        raise ValueError(f"{told!r} is no sum")
+        raise ValueError(f"{value!r} is no sum")
     return found
 
 

@@ -62,7 +62,7 @@ def init(path: str, version: Version, setup: Optional[Setup], log_name: str) -> 
             if found is None:
                 raise LogAway("the log: its setup could not be written")
         if setup is not None and _filled(setup, found) != found:
-            raise Differs(f"the log was set up otherwise: {told(found)}")
+            raise Differs(f"the log was set up otherwise: {described(found)}")
         check_files(version, found)
         check_whole(log, found, log_name)
     finally:
@@ -85,7 +85,7 @@ def check_files(version: Version, setup: Setup) -> None:
                          "begins a log that is")
 
 
-def told(setup: Setup) -> str:
+def described(setup: Setup) -> str:
     """A setup for people."""
     return (f"form {setup.form}{', caseless' if setup.caseless else ''}, room {setup.room}"
             + f", shards {setup.shards}, equivalents {'allowed' if setup.equivalents else 'refused'}"
@@ -194,7 +194,7 @@ class Registry:
         if found.name != self.setup.name and replace(found, name=self.setup.name) == self.setup:
             raise Differs(f"{shown(self.store.log)} is another registry's log: its name is {found.name or 'none'}, the store's {self.setup.name or 'none'}")
         if found != self.setup:
-            raise Differs(f"the store was set up as {told(self.setup)}; its log as {told(found)}")
+            raise Differs(f"the store was set up as {described(self.setup)}; its log as {described(found)}")
 
     def close(self) -> None:
         """Saves what each shard keeps, and lets store and log go, also where the store takes nothing any more."""
@@ -304,10 +304,9 @@ class Registry:
         if most < records.MOST_BYTES and len(string if isinstance(string, bytes) else string.encode()) > most:
             raise NameTooLong(most)
         self._speller.accept(string)
-        message = self._speller.message(string)
-        assert message is not None
+        name, key = self._speller[0]
         self._speller.forget(string)
-        return records.claim_of(message, owner, self._unique_of(_text(string)) if self.setup.caseless else None)
+        return Claim(records.message(self.setup.form, name, key), owner, name, key, self._unique_of(name) if self.setup.caseless else None)
 
     def _shard_of(self, unique: str) -> int:
         return records.shard_of(unique, self.setup.shards)
@@ -317,12 +316,12 @@ class Registry:
         if not publish:
             return {}
         places = self.log.append([(number, body) for _, number, body in publish])
-        told = self._read_on({number for _, number, _ in publish})
-        lost = [place for (_, number, _), place in zip(publish, places) if (number, place) not in told]
+        outcomes = self._read_on({number for _, number, _ in publish})
+        lost = [place for (_, number, _), place in zip(publish, places) if (number, place) not in outcomes]
         if lost:
             self._check_ends()
             raise LogBroken(lost[0], "the record that this node wrote is missing; see `npss-registry relog`")
-        return {index: told[number, place] for (index, number, _), place in zip(publish, places)}
+        return {index: outcomes[number, place] for (index, number, _), place in zip(publish, places)}
 
     def forget(self, string: Union[str, bytes], owner: Optional[str] = None) -> Outcome:
         """Gives a string up; where an owner is named, only that owner's. Raises Refused of what can't be registered."""
@@ -352,8 +351,8 @@ class Registry:
                 return None
             if first != second or self.setup.caseless:  # a node compares keys, and no caseless ones
                 return unique == other_unique
-            told = self.shards[first].node.same(one, other)
-            return unique == other_unique if told is None else told
+            answer = self.shards[first].node.same(one, other)
+            return unique == other_unique if answer is None else answer
 
     def _parts_of(self, string: Union[str, bytes]) -> tuple[str, str]:
         """A string as text, and its unique key."""

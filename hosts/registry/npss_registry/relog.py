@@ -198,8 +198,9 @@ class _Moving:
     def _lost_late(self, store: Store) -> Iterator[tuple[int, Registration]]:
         """What a store registers that a log which others have begun never did; each with its shard."""
         tables, setup = store.versions()[-1].tables(), setup_of(self._log, 0)
-        for shard in range(store.setup.shards if setup is not None else 0):
-            assert setup is not None
+        if setup is None:
+            return
+        for shard in range(store.setup.shards):
             known = {(one.string, one.owner) for one in Ledger(Examiner(setup, shard, tables), self._log).all}
             yield from ((shard, row) for row in store.registrations(shard) if (row.string, row.owner) not in known)
 

@@ -33,14 +33,14 @@ EXPLAINING = 2
 _STATUSES = {"registered": 200, "taken": 409, "full": 507, "forgotten": 200, "not registered": 404}
 
 
-def _told(found: Registration) -> dict[str, Any]:
-    told = {"name": found.string, "owner": found.owner, "place": found.place, "key": found.key, "parked": found.parked}
-    return told if found.caseless is None else {**told, "caseless": found.caseless}
+def _fields_of(found: Registration) -> dict[str, Any]:
+    fields = {"name": found.string, "owner": found.owner, "place": found.place, "key": found.key, "parked": found.parked}
+    return fields if found.caseless is None else {**fields, "caseless": found.caseless}
 
 
 def _answered(outcome: Outcome) -> JSONResponse:
-    told = {"outcome": outcome.what, "holder": _told(outcome.holder) if outcome.holder else None}
-    return JSONResponse(told, 201 if outcome.new else _STATUSES[outcome.what])
+    fields = {"outcome": outcome.what, "holder": _fields_of(outcome.holder) if outcome.holder else None}
+    return JSONResponse(fields, 201 if outcome.new else _STATUSES[outcome.what])
 
 
 class Service:
@@ -81,13 +81,13 @@ class Service:
 
     async def claim(self, request: Request) -> Response:
         token = self._check_changes(request)
-        told = await object_of(request, MOST_BODY_WITH_TOKEN)
-        return await self._changed("claim", token, self._worker.claim(text_of(told, "name"), owner_of(told)))
+        fields = await object_of(request, MOST_BODY_WITH_TOKEN)
+        return await self._changed("claim", token, self._worker.claim(text_of(fields, "name"), owner_of(fields)))
 
     async def forget(self, request: Request) -> Response:
         token = self._check_changes(request)
-        told = await object_of(request, MOST_BODY_WITH_TOKEN)
-        name, owner = text_of(told, "name"), owner_of(told) if "owner" in told else None
+        fields = await object_of(request, MOST_BODY_WITH_TOKEN)
+        name, owner = text_of(fields, "name"), owner_of(fields) if "owner" in fields else None
         return await self._changed("forget", token, self._worker.work(lambda registry: registry.forget(name, owner)))
 
     async def _changed(self, request: str, token: Token, asked: "Future[Outcome]") -> Response:
@@ -96,33 +96,34 @@ class Service:
         return _answered(outcome)
 
     async def find(self, request: Request) -> Response:
-        told = await object_of(request, self._check_reads(request))
-        found = self._reader.find(text_of(told, "name"))
-        return JSONResponse([_told(one) for one in found], 200 if found else 404)
+        fields = await object_of(request, self._check_reads(request))
+        found = self._reader.find(text_of(fields, "name"))
+        return JSONResponse([_fields_of(one) for one in found], 200 if found else 404)
 
     async def same(self, request: Request) -> Response:
-        told = await object_of(request, self._check_reads(request))
-        same = self._reader.same(text_of(told, "left"), text_of(told, "right"))
+        fields = await object_of(request, self._check_reads(request))
+        same = self._reader.same(text_of(fields, "left"), text_of(fields, "right"))
         return JSONResponse({"same": same}, 404 if same is None else 200)
 
     async def status(self, request: Request) -> Response:
         self._check_reads(request)
-        told = self._overlook.overview()
+        overview = self._overlook.overview()
         names: dict[int, list[str]] = {}
-        for shard, name in told.parked:
+        for shard, name in overview.parked:
             names.setdefault(shard, []).append(name)
-        return JSONResponse({"node": told.node, "assigned": told.assigned, "form": told.form, "caseless": told.caseless, "room": told.room,
-                             "most_bytes": told.most_bytes, "versions": told.versions,
-                             "claims": told.claims, "log": {"away": told.log_away, "age": told.age}, "store": {"away": told.store_away},
-                             "shards": [_state(one, names.get(one.shard, [])) for one in told.shards]})
+        return JSONResponse({"node": overview.node, "assigned": overview.assigned, "form": overview.form, "caseless": overview.caseless,
+                             "room": overview.room, "most_bytes": overview.most_bytes, "versions": overview.versions,
+                             "claims": overview.claims, "log": {"away": overview.log_away, "age": overview.age},
+                             "store": {"away": overview.store_away},
+                             "shards": [_state(one, names.get(one.shard, [])) for one in overview.shards]})
 
     async def health(self, request: Request) -> Response:
         """Whether names can be looked up, which the status says, and whether they can be claimed."""
         self._reader.find("")
-        told = self._overlook.overview()
+        overview = self._overlook.overview()
         stopped = self._worker.failure is not None
-        return JSONResponse({"finds": not stopped, "claims": told.claims, "log": "reached" if told.log_away is None else "away",
-                             "store": "written" if told.store_away is None else "away"}, 503 if stopped else 200)
+        return JSONResponse({"finds": not stopped, "claims": overview.claims, "log": "reached" if overview.log_away is None else "away",
+                             "store": "written" if overview.store_away is None else "away"}, 503 if stopped else 200)
 
     async def metrics(self, request: Request) -> Response:
         self._check_reads(request)
@@ -162,25 +163,25 @@ class Service:
         """What became of a request that isn't answered."""
         if isinstance(error, ClientDisconnect):
             raise error
-        told: dict[str, Any] = {"error": type(error).__name__, "why": str(error)}
+        fields: dict[str, Any] = {"error": type(error).__name__, "why": str(error)}
         status, headers = 503, {}
         if isinstance(error, Refused):
             status = 422
             if isinstance(error, Unassigned):
-                told.update(code=f"{error.code:04X}", place=error.place, index=error.index)
+                fields.update(code=f"{error.code:04X}", place=error.place, index=error.index)
         elif isinstance(error, Fault):
-            status, headers, told["error"] = error.status, error.headers, error.phrase
+            status, headers, fields["error"] = error.status, error.headers, error.phrase
         elif isinstance(error, HTTPException):
             status, headers = error.status_code, dict(error.headers or {})
-            told = {"error": HTTPStatus(status).phrase, "why": f"{request.method} {request.url.path} isn't one of this server's requests"}
+            fields = {"error": HTTPStatus(status).phrase, "why": f"{request.method} {request.url.path} isn't one of this server's requests"}
         elif isinstance(error, (NotTried, LogReadOnly)):
-            told["why"] += "; nothing was written, ask again later"
+            fields["why"] += "; nothing was written, ask again later"
         elif isinstance(error, RegistryError):
-            told["why"] += "; the outcome is unknown, ask again" if request.url.path in CHANGES else ""
+            fields["why"] += "; the outcome is unknown, ask again" if request.url.path in CHANGES else ""
         else:
-            status, told = 500, {"error": "Internal Server Error", "why": "the server has a fault, which it tells who runs it"}
-        self._metrics.refused(told["error"])
-        return JSONResponse(told, status, headers)
+            status, fields = 500, {"error": "Internal Server Error", "why": "the server has a fault, which it tells who runs it"}
+        self._metrics.refused(fields["error"])
+        return JSONResponse(fields, status, headers)
 
 
 def _no_token() -> Fault:

@@ -119,9 +119,9 @@ class Node:
                         before, versions[before - 1], len(versions), versions[-1])
         host, port = self._sockets[0].getsockname()[:2]
         address = f"[{host}]" if ":" in host else host
-        told = "to be read alone" if self._tokens is None else f"{len(self._tokens)} tokens" if len(self._tokens) > 1 else "one token"
+        access = "to be read alone" if self._tokens is None else f"{len(self._tokens)} tokens" if len(self._tokens) > 1 else "one token"
         LOGGER.info("serves %s at http://%s:%d/, %s; node %s, %s%s, version %d of Unicode in this store assigns %d code points",
-                    self._asked.store, address, port, told, self._worker.node, "caseless " if self._reader.setup.caseless else "",
+                    self._asked.store, address, port, access, self._worker.node, "caseless " if self._reader.setup.caseless else "",
                     self._reader.setup.form.upper(), self._reader.versions, self._reader.tables.count)
 
     def _ended(self) -> int:
@@ -130,8 +130,8 @@ class Node:
         self._tell_refusals()
         failure = self._worker.failure
         if failure is not None:
-            told = "" if isinstance(failure, RegistryError) else f"{type(failure).__name__}: "
-            LOGGER.critical("the node has stopped: %s%s", told, failure)
+            kind = "" if isinstance(failure, RegistryError) else f"{type(failure).__name__}: "
+            LOGGER.critical("the node has stopped: %s%s", kind, failure)
             return 4
         LOGGER.info("has ended" if whole else "has ended before the registry was saved, which reads on from the log at its next start")
         return 0
@@ -179,9 +179,9 @@ class Node:
             self._tell_refusals()
 
     def _tell_refusals(self) -> None:
-        told = self._metrics.untold()
-        if told:
-            LOGGER.info("refused: %s", ", ".join(f"{count} {kind}" for kind, count in sorted(told.items())))
+        counts = self._metrics.untold()
+        if counts:
+            LOGGER.info("refused: %s", ", ".join(f"{count} {kind}" for kind, count in sorted(counts.items())))
 
 
 def serve(asked: Serving) -> int:

@@ -168,21 +168,20 @@ class Shard:
             self._sum = records.sum_behind(self._sum, place, self._last)
             self._behind += 1
             if isinstance(record, Snapshot):
-                self._begin_here()
+                self._begin_here(self._last)
         if outcomes and self._last is not None:
             self._store.applied(self.number, self.place, self._last, self._sum)
         if self._behind >= SAVE_AFTER:
             self.save()
         return outcomes
 
-    def _begin_here(self) -> None:
+    def _begin_here(self, last: bytes) -> None:
         """Begins the journal behind a snapshot, since what stands before it may be trimmed."""
         if self._begins is not None:
             for name in self._begins.names:
                 self._register(name)
-            self._sum, self._begins = self._begins.told.past, None
-        assert self._last is not None
-        self._store.applied(self.number, self.place, self._last, self._sum)
+            self._sum, self._begins = self._begins.snapshot.past, None
+        self._store.applied(self.number, self.place, last, self._sum)
         self.begin_journal()
 
     def _register(self, name: Name) -> None:
@@ -197,12 +196,12 @@ class Shard:
         """The claim of which a record was."""
         return Claim(records.message(self._store.setup.form, of.string, of.key), of.owner, of.string, of.key, of.caseless)
 
-    def _check_sum(self, place: int, told: SnapshotSum) -> None:
+    def _check_sum(self, place: int, snapshot: SnapshotSum) -> None:
         """What this node registered at its last snapshot is what the log tells of it."""
-        if told.place == self._base_place:
-            rows = self._store.registered_at(self.number, told.place)
-            if records.sum_of_names(Name(*row[:4], row.caseless) for row in rows) != (told.names, told.sum):
-                raise LogBroken(place, f"what this node registered at the snapshot at place {told.place} isn't what the log tells of it")
+        if snapshot.place == self._base_place:
+            rows = self._store.registered_at(self.number, snapshot.place)
+            if records.sum_of_names(Name(*row[:4], row.caseless) for row in rows) != (snapshot.names, snapshot.sum):
+                raise LogBroken(place, f"what this node registered at the snapshot at place {snapshot.place} isn't what the log tells of it")
 
     def check_end(self) -> None:
         """LogEnded where the shard was read to its end."""
@@ -245,12 +244,12 @@ class Shard:
     def _take(self, place: int, claim: Claim) -> Optional[str]:
         """Hands a claim's message to the node; why it is parked, where the node lacks a code point."""
         try:
-            told = self.node.take(claim.message)
+            accepted = self.node.take(claim.message)
         except Unassigned as error:
             return lacks(error)
         except Refused as error:
             raise LogBroken(place, f"the node refuses the message: {type(error).__name__}: {error}") from error
-        if told is not Accepted.KEPT:
+        if accepted is not Accepted.KEPT:
             raise LogBroken(place, "the node keeps the string already")
         return None
 

@@ -22,7 +22,7 @@ class Kept(NamedTuple):
     """What was registered at a snapshot."""
 
     names: Sequence[Name]
-    told: SnapshotSum
+    snapshot: SnapshotSum
 
     @property
     def size(self) -> int:
@@ -36,12 +36,12 @@ def trimmed_to(log: Log, shard: int) -> Optional[int]:
     return first[0][0] if first and isinstance(records.read(*first[0]), Snapshot) else None
 
 
-def keep(log: Log, shard: int, names: Iterable[Name], told: SnapshotSum) -> None:
+def keep(log: Log, shard: int, names: Iterable[Name], snapshot: SnapshotSum) -> None:
     """Writes what was registered at a snapshot beside the log. What isn't whole is none: its last part comes last."""
     number = -1
     for number, part in enumerate(_parts(names)):
-        log.keep(shard, told.place, number, part)
-    log.keep(shard, told.place, number + 1, records.spelled(told))
+        log.keep(shard, snapshot.place, number, part)
+    log.keep(shard, snapshot.place, number + 1, records.spelled(snapshot))
 
 
 def load(log: Log, shard: int, place: int) -> Kept:
@@ -50,18 +50,18 @@ def load(log: Log, shard: int, place: int) -> Kept:
     try:
         for part in _found(log, shard, place):
             if part.startswith(b"{"):
-                told = records.read(place, part)
+                snapshot = records.read(place, part)
                 break
-            names += (_name(*told) for told in json.loads(zlib.decompress(part)))
+            names += (_name(*row) for row in json.loads(zlib.decompress(part)))
         else:
             raise LogBroken(place, "what was registered there is missing beside the log")
     except (TypeError, ValueError, zlib.error) as error:
         raise LogBroken(place, f"what stands beside the log is no part of what was registered there: {error!r}") from error
-    if not isinstance(told, SnapshotSum) or (told.place, told.names, told.sum) != (place, *records.sum_of_names(names)):
+    if not isinstance(snapshot, SnapshotSum) or (snapshot.place, snapshot.names, snapshot.sum) != (place, *records.sum_of_names(names)):
         raise LogBroken(place, "what stands beside the log isn't what was registered there: its sum is another one")
     if any(one.place >= behind for one, behind in zip(names, [*(name.place for name in names[1:]), place])):
         raise LogBroken(place, "what stands beside the log isn't what was registered there: its places don't rise")
-    return Kept(names, told)
+    return Kept(names, snapshot)
 
 
 def _found(log: Log, shard: int, place: int) -> Iterator[bytes]:
@@ -75,7 +75,7 @@ def _parts(names: Iterable[Name]) -> Iterator[bytes]:
     part: list[str] = []
     size = 0
     for name in names:
-        part.append(_ENCODER.encode(_told(name)))
+        part.append(_ENCODER.encode(_row_of(name)))
         size += len(part[-1])
         if size >= _PART:
             yield _packed(part)
@@ -84,10 +84,10 @@ def _parts(names: Iterable[Name]) -> Iterator[bytes]:
         yield _packed(part)
 
 
-def _told(name: Name) -> list[object]:
+def _row_of(name: Name) -> list[object]:
     """A name as a part tells it."""
-    told = [name.place, name.string, None if name.key == name.string else name.key, name.owner]
-    return told if name.caseless is None else [*told, name.caseless]
+    row = [name.place, name.string, None if name.key == name.string else name.key, name.owner]
+    return row if name.caseless is None else [*row, name.caseless]
 
 
 def _packed(part: Sequence[str]) -> bytes:

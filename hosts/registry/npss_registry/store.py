@@ -10,7 +10,7 @@ from dataclasses import replace
 from typing import Any, Optional
 
 from npss_registry.errors import StoreError
-from npss_registry.failures import told
+from npss_registry.failures import store_error
 from npss_registry.images import first_of, whole, write_rest
 from npss_registry.layout import LAYOUT, add_version, raise_layout, without_password
 from npss_registry.lock import Lock, file_of
@@ -58,12 +58,12 @@ class Store:
             self._base = self._connected(file, read_only)
         except sqlite3.Error as error:
             self._unlock()
-            raise told(path, error, "it is no store") from error
+            raise store_error(path, error, "it is no store") from error
         try:
             self._read_setup(file, read_only)
         except sqlite3.Error as error:
             self.close()
-            raise told(path, error, "it is no store") from error
+            raise store_error(path, error, "it is no store") from error
         except BaseException:
             self.close()
             raise
@@ -110,7 +110,7 @@ class Store:
                 raise_layout(copy, file)
                 copy.execute("COMMIT")
         except sqlite3.Error as error:
-            raise told(path, error, "it is no store") from error
+            raise store_error(path, error, "it is no store") from error
         made = cls(to, read_only=True)
         made.path, made.folder = path, os.path.dirname(file)
         return made
@@ -119,6 +119,12 @@ class Store:
         """Lets the store go."""
         self._base.close()
         self._unlock()
+
+    def _held(self) -> Lock:
+        """The lock of a store that is worked on. StoreError of one that is only read."""
+        if self._lock is None:
+            raise StoreError(f"{self.path}: the store is only read here")
+        return self._lock
 
     def _unlock(self) -> None:
         if self._lock is not None:
@@ -163,7 +169,7 @@ class Store:
             for end in ("", "-journal"):
                 with suppress(OSError):
                     os.unlink(to + end)
-            raise told(to, error, "the copy can't be written") from error
+            raise store_error(to, error, "the copy can't be written") from error
 
     def faults(self) -> list[str]:
         """What SQLite finds wrong in the file, as an index that differs from its table."""
@@ -177,17 +183,15 @@ class Store:
     @property
     def was_brought_back(self) -> bool:
         """Whether this isn't the file that was opened last under its name, but a backup of an earlier time or another place."""
-        assert self._lock is not None
-        told = self._lock.told.split()
+        mark = self._held().mark.split()
         if not self._openings:
-            return bool(told)
+            return bool(mark)
         # Earlier versions didn't tell the file, which is another one where a folder was copied whole.
-        return told not in (self._mark(), self._mark()[:2])
+        return mark not in (self._mark(), self._mark()[:2])
 
     def _mark(self) -> list[str]:
         """What the lock's file tells of the last opening."""
-        assert self._lock is not None
-        return [self.node, str(self._openings), str(self._lock.inode)]
+        return [self.node, str(self._openings), str(self._held().inode)]
 
     def rename_node(self) -> None:
         """Gives the node another name, since its old one goes on elsewhere."""
@@ -201,8 +205,7 @@ class Store:
 
     def note_opening(self) -> None:
         """Tells beside the store which opening was the last. Where that fails, the next one takes it for a backup."""
-        assert self._lock is not None
-        self._lock.tell(" ".join(self._mark()) + "\n")
+        self._held().tell(" ".join(self._mark()) + "\n")
 
     def versions(self) -> list[Version]:
         """The chain of versions, the earliest first. The last is in use."""

@@ -17,10 +17,10 @@ class _OneLine(logging.Formatter):
         self._to_journal = to_journal
 
     def format(self, record: logging.LogRecord) -> str:
-        told = record.getMessage()
+        text = record.getMessage()
         if record.exc_info and record.exc_info[1] is not None:
-            told += f": {type(record.exc_info[1]).__name__}: {record.exc_info[1]}"
-        line = "".join(one if one.isprintable() else repr(one)[1:-1] for one in told[:MOST_LINE])
+            text += f": {type(record.exc_info[1]).__name__}: {record.exc_info[1]}"
+        line = "".join(one if one.isprintable() else repr(one)[1:-1] for one in text[:MOST_LINE])
         if self._to_journal:
             return f"<{_LEVELS.get(record.levelno, 5)}>{line}"
         return f"npss-registry: {'' if record.levelno == logging.INFO else record.levelname.lower() + ': '}{line}"

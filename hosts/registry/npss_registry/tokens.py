@@ -36,8 +36,8 @@ def tokens_in(path: str) -> list[Token]:
             tokens.append(_token(f"{path}: line {number}", number, words))
     if not tokens:
         raise CannotServe(f"{path}: there is no token in it")
-    for told, of in ((token.name for token in tokens), "name"), ((token.secret for token in tokens), "token"):
-        if len(set(told)) < len(tokens):
+    for values, of in ((token.name for token in tokens), "name"), ((token.secret for token in tokens), "token"):
+        if len(set(values)) < len(tokens):
             raise CannotServe(f"{path}: two of its lines have the same {of}")
     return tokens
 
@@ -57,26 +57,26 @@ def _text_of(path: str) -> str:
 
 def _read(path: str, file: int) -> bytes:
     """The bytes of a file, which may be a pipe that nobody writes into."""
-    told = b""
-    while len(told) <= MOST_FILE:
+    content = b""
+    while len(content) <= MOST_FILE:
         if not select.select([file], [], [], PATIENCE)[0]:
             raise CannotServe(f"{path}: nothing came from it within {PATIENCE:g} s")
         piece = os.read(file, MOST_FILE)
         if not piece:
-            return told
-        told += piece
+            return content
+        content += piece
     raise CannotServe(f"{path}: a file of tokens has at most {MOST_FILE} bytes")
 
 
 def _token(place: str, number: int, words: list[str]) -> Token:
     changes = words[-1] != READ_ONLY
-    told = words if changes else words[:-1]
-    if not 1 <= len(told) <= 2:
+    parts = words if changes else words[:-1]
+    if not 1 <= len(parts) <= 2:
         raise CannotServe(f"{place}: wanted is TOKEN, NAME TOKEN or NAME TOKEN {READ_ONLY}")
-    secret = told[-1]
+    secret = parts[-1]
     if len(secret) < LEAST or not secret.isascii() or not secret.isprintable():
         raise CannotServe(f"{place}: a token has {LEAST} or more letters, digits and signs of ASCII")
-    return Token(told[0] if len(told) == 2 else f"line-{number}", secret, changes)
+    return Token(parts[0] if len(parts) == 2 else f"line-{number}", secret, changes)
 
 
 def matching(tokens: Sequence[Token], header: str) -> Optional[Token]:

@@ -74,13 +74,13 @@ class _Trimming:
         self._bring(self._log.lasts(len(self._examiners)))
         places = self._log.append([(one.shard, records.spelled(Snapshot(one.setup))) for one in self._examiners])
         kept = [self._keep(one, place) for one, place in zip(self._examiners, places)]
-        sums = [told for told, _ in kept]
-        self._bring(self._log.append([(shard, records.spelled(told)) for shard, told in enumerate(sums)]))
-        for shard, told in enumerate(sums):
-            if snapshots.load(self._log, shard, told.place).told != told:
+        sums = [snapshot for snapshot, _ in kept]
+        self._bring(self._log.append([(shard, records.spelled(snapshot)) for shard, snapshot in enumerate(sums)]))
+        for shard, snapshot in enumerate(sums):
+            if snapshots.load(self._log, shard, snapshot.place).snapshot != snapshot:
                 raise StoreError("another snapshot stands beside the log: nothing was deleted")
-            self._log.trim(shard, told.place)
-        return Trimmed([], sum(before for _, before in kept), sum(told.names for told in sums))
+            self._log.trim(shard, snapshot.place)
+        return Trimmed([], sum(before for _, before in kept), sum(snapshot.names for snapshot in sums))
 
     def _check_end(self) -> None:
         for shard, (place, body) in enumerate(last_bodies(self._log, len(self._examiners))):

@@ -32,7 +32,7 @@ AWAY = (LogAway, LogUnsafe, NoLog)
 
 
 @dataclass
-class _Asked:
+class _Task:
     """A claim, or any other work on the registry, and when it was asked."""
 
     claim: Optional[tuple[Union[str, bytes], str]] = None
@@ -65,7 +65,7 @@ class Worker:
         # How many versions the store had when it was served last.
         self.served = self._store.served
         self._condition = threading.Condition()
-        self._waiting: deque[_Asked] = deque()
+        self._waiting: deque[_Task] = deque()
         self._unread: dict[int, None] = {}
         self._ending = False
         self._pause = FIRST_PAUSE
@@ -86,13 +86,13 @@ class Worker:
 
     def claim(self, string: Union[str, bytes], owner: str) -> "Future[Outcome]":
         """A claim, which goes to the log with those that wait beside it."""
-        return self._ask(_Asked(claim=(string, owner)))
+        return self._ask(_Task(claim=(string, owner)))
 
     def work(self, work: Callable[[Registry], Any]) -> "Future[Any]":
         """Any other work that wants the log."""
-        return self._ask(_Asked(work=work))
+        return self._ask(_Task(work=work))
 
-    def _ask(self, asked: _Asked) -> "Future[Any]":
+    def _ask(self, asked: _Task) -> "Future[Any]":
         with self._condition:
             refusal = self._refusal()
             if refusal is None:
@@ -179,8 +179,8 @@ class Worker:
             raise
         return True
 
-    def _first_waiting(self) -> list[_Asked]:
-        batch: list[_Asked] = []
+    def _first_waiting(self) -> list[_Task]:
+        batch: list[_Task] = []
         left = CHARACTERS
         while self._waiting and len(batch) < BATCH and left > 0:
             batch.append(self._waiting.popleft())
@@ -193,7 +193,7 @@ class Worker:
         return bool(self._unread) if self.registry else time.monotonic() >= self._attempt
 
     @staticmethod
-    def _answer_all(batch: Sequence[_Asked], error: BaseException) -> None:
+    def _answer_all(batch: Sequence[_Task], error: BaseException) -> None:
         for asked in batch:
             if not asked.answer.done():
                 asked.answer.set_exception(error)
@@ -218,7 +218,7 @@ class Worker:
         self._health.store.end()
         self._pause = FIRST_PAUSE
 
-    def _begin_again(self, batch: Sequence[_Asked]) -> None:
+    def _begin_again(self, batch: Sequence[_Task]) -> None:
         """Begins the registry where it is time; else what was asked is told why not."""
         if time.monotonic() >= self._attempt:
             try:
@@ -253,17 +253,17 @@ class Worker:
 
     # ---- work
 
-    def _serve(self, registry: Registry, batch: Sequence[_Asked]) -> None:
+    def _serve(self, registry: Registry, batch: Sequence[_Task]) -> None:
         self._claim_all(registry, [asked for asked in batch if asked.claim is not None])
         for asked in batch:
             if asked.work is not None:
                 self._reached([asked], lambda: [asked.work(registry)] if asked.work else [])
 
-    def _claim_all(self, registry: Registry, claims: Sequence[_Asked]) -> None:
+    def _claim_all(self, registry: Registry, claims: Sequence[_Task]) -> None:
         if claims:
             self._reached(claims, lambda: registry.claim_many([asked.claim for asked in claims if asked.claim is not None]))
 
-    def _reached(self, asked: Sequence[_Asked], work: Callable[[], Sequence[Any]]) -> None:
+    def _reached(self, asked: Sequence[_Task], work: Callable[[], Sequence[Any]]) -> None:
         """Answers with what work comes to."""
         try:
             outcomes = work()

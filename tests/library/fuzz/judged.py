@@ -1,4 +1,4 @@
-"""Folding files that were edited at random, opened by the C library, beside the reader of tests/models/folding_judge.py.
+"""Folding files that were edited at random, opened by the C library, beside the reader of tests/models/folding_files.py.
 
 What npss_open_caseless answers, and the caseless NFD form of a text, have to be what that reader says. tests/library/fuzz.py runs this
 beside the fuzzers, by the program of folding_answers.cc.
@@ -12,7 +12,7 @@ import time
 from typing import NamedTuple
 
 from harness import ROOT
-from models import folding_judge, judge
+from models import data_files, folding_files
 import ucd
 
 FIXTURES = ROOT / "fixtures"
@@ -30,7 +30,7 @@ class Version(NamedTuple):
     """The first two files, what the reader has of them, folding files to begin with, and a text, all of it assigned."""
 
     files: tuple
-    decompositions: folding_judge.Decompositions
+    decompositions: folding_files.Decompositions
     lowercases: dict
     foldings: list
     text: str
@@ -38,12 +38,12 @@ class Version(NamedTuple):
 
 def version_of(data, exclusions, foldings):
     """The version of two files, with these folding files."""
-    rows, told = judge.version_of(data.read_bytes(), exclusions.read_bytes())
+    rows, told = data_files.version_of(data.read_bytes(), exclusions.read_bytes())
     if rows is None:
         raise ValueError(told)
-    assigned = [code for row in rows.rows for code in range(row.first, min(row.last, row.first + 9) + 1) if not judge.is_surrogate(code)]
+    assigned = [code for row in rows.rows for code in range(row.first, min(row.last, row.first + 9) + 1) if not data_files.is_surrogate(code)]
     text = "".join(map(chr, assigned[:500] + assigned[-20:]))
-    return Version((data, exclusions), folding_judge.Decompositions(rows), folding_judge.lowercases_of(data.read_bytes()),
+    return Version((data, exclusions), folding_files.Decompositions(rows), folding_files.lowercases_of(data.read_bytes()),
                    [path.read_bytes() for path in foldings], text)
 
 
@@ -122,7 +122,7 @@ def edited(chance, data):
 
 def answer_of(version, folding):
     """The five fields of the answer, and the caseless NFD form of the version's text."""
-    folded, line = folding_judge.folded_of(version.decompositions, version.lowercases, folding)
+    folded, line = folding_files.folded_of(version.decompositions, version.lowercases, folding)
     if folded:
         return (DONE, 0, 0, 0, 0), "".join(map(chr, folded.caseless_nfd(list(map(ord, version.text))))).encode().hex()
     found = re.search(r"line (\d+): (\w+)", line)

@@ -1,6 +1,7 @@
 """What npss raises."""
 
-from typing import Optional
+import os
+from typing import Optional, Union
 
 __all__ = ["BadEntry", "BadTables", "Full", "KeyDiffers", "Malformed", "NoFolding", "NotUtf8", "OlderTables", "OtherForm", "Refused",
            "TooLong", "Unassigned"]
@@ -135,7 +136,10 @@ class BadTables(ValueError):
           file are good and it doesn't go with the others
     name: the name of the fault, as docs/FORMATS.md has it
     code: the code point of a fault of tables, and of a folding file that doesn't go with the others; else None
+    path: how the file was named, where Tables.open was given its name; else None
     """
+
+    path: Optional[Union[str, "os.PathLike[str]"]] = None
 
     def __init__(self, file: str, line: Optional[int], name: str, code: Optional[int] = None):
         super().__init__(file, line, name, code)
@@ -145,11 +149,12 @@ class BadTables(ValueError):
         self.code = code
 
     def __str__(self) -> str:
-        if self.code is not None:
-            return f"{self.file}: {self.name} {self.code:04X}"
-        if self.line is not None:
-            return f"{self.file}: line {self.line}: {self.name}"
-        return f"{self.file}: {self.name}"
+        line = "" if self.line is None else f"line {self.line}: "
+        code = "" if self.code is None else f" {self.code:04X}"
+        path = "" if self.path is None else f", in {os.fspath(self.path)!r}"
+        # The lines of CompositionExclusions.txt have one field; behind its head of comments they are no compressed file.
+        swapped = "; data and exclusions may be swapped" if (self.file, self.name) == ("data", "FieldCount") and self.line != 1 else ""
+        return f"{self.file}: {line}{self.name}{code}{path}{swapped}"
 
 
 # Users see the package alone.

@@ -5,9 +5,9 @@ use Rattle.np_caseless.specs.Extension.{ExtendsFolded}
 use Rattle.np_caseless.specs.Folded.{FoldedVersion}
 use Rattle.np_jobs.specs.Streams.{Stream}
 use Rattle.np_jobs.specs.Texts.{IsMadeOfText}
-use Rattle.np_jobs.specs.declared.ending.Made.{Made}
+use Rattle.np_jobs.specs.declared.ending.JobOutput.{JobOutput}
 use Rattle.np_caseless_job.specs.CaselessKeysUnder.{IsCaselessUnder}
 
-pub record MakesOfInput (form : Form) (old new : FoldedVersion) (input : Stream) (m : Made) : Type 0 where
+pub record MakesOfInput (form : Form) (old new : FoldedVersion) (input : Stream) (m : JobOutput) : Type 0 where
   pub extends : ExtendsFolded old new
   pub answered : IsMadeOfText (IsCaselessUnder form old new) input m.is_yes (string_bytes m.text)

@@ -7,7 +7,7 @@ use np_code_points::watched::Watched;
 use np_examples_shared::devices::{Ending, Trickle};
 use np_jobs::{audit_job, compare_job, key_job, key_under_job, normalize_job};
 use np_lines::{LineEnd, Wanted};
-use np_lines_job::{Asked, lines_job};
+use np_lines_job::{LinesRun, lines_job};
 use np_program::replay_job;
 use std::alloc::Global;
 use std::io::Read;
@@ -74,7 +74,7 @@ pub(super) fn counts_of<R: Counting + Drop>(readers: Readers<R>) -> [u64; 5] {
 }
 
 /// What is asked of lines.
-const ASKED: Asked = Asked {
+const ASKED: LinesRun = LinesRun {
     wanted: Wanted {
         form: Form::Nfc,
         end: LineEnd::Lf,

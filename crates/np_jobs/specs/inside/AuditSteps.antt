@@ -5,11 +5,11 @@ use Rattle.np_jobs.specs.Audits.{IsAudit}
 use Rattle.np_jobs.specs.Streams.{Stream}
 use Rattle.np_jobs.specs.Versions.{WasBuilt, IsVersionFault}
 use Rattle.np_jobs.specs.Wraps.{Wraps}
-use Rattle.np_jobs.specs.declared.ending.Made.{Made}
+use Rattle.np_jobs.specs.declared.ending.JobOutput.{JobOutput}
 use Rattle.np_jobs.specs.declared.faults.JobFault.{JobFault}
 use Rattle.np_jobs.specs.declared.faults.JobFault.TheVariants.{Version, Memory}
 
-pub record MakesAgainst (old : VersionData) (data_file exclusions_file : Stream) (made : Made) : Type 0 where
+pub record MakesAgainst (old : VersionData) (data_file exclusions_file : Stream) (made : JobOutput) : Type 0 where
   pub new : VersionData
   pub built : WasBuilt data_file exclusions_file new
   pub is : IsAudit old new made.is_yes (string_bytes made.text)

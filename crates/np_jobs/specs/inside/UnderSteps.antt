@@ -6,9 +6,9 @@ use Rattle.np_versions.specs.Versions.{VersionData}
 use Rattle.np_jobs.specs.KeysUnder.{IsKeyUnder}
 use Rattle.np_jobs.specs.Streams.{Stream}
 use Rattle.np_jobs.specs.Texts.{IsMadeOfText}
-use Rattle.np_jobs.specs.declared.ending.Made.{Made}
+use Rattle.np_jobs.specs.declared.ending.JobOutput.{JobOutput}
 
 -- the new version extends the old one, and the input was answered
-pub record MakesOfPair (form : Form) (old new : VersionData) (input : Stream) (made : Made) : Type 0 where
+pub record MakesOfPair (form : Form) (old new : VersionData) (input : Stream) (made : JobOutput) : Type 0 where
   pub extends : Extends old new
   pub answered : IsMadeOfText (IsKeyUnder form old new) input made.is_yes (string_bytes made.text)

@@ -41,14 +41,14 @@ class Cluster:
         self._token: Optional[str] = None
         self._line: Optional[http.client.HTTPConnection] = None
 
-    def ask(self, path: str, told: dict[str, Any], by: Optional[float] = None) -> dict[str, Any]:
+    def ask(self, path: str, request: dict[str, Any], by: Optional[float] = None) -> dict[str, Any]:
         """An answer of some member, by a moment. What is asked may have been done several times, or not, where LogAway is raised."""
         end = time.monotonic() + self._patience if by is None else by
         why, tried = "no member answers", 0
         while (left := end - time.monotonic()) > 0:
             try:
                 # A member that is stopped takes connections and is silent, so none has all the time.
-                return self._ask_one(path, told, min(left, self._patience / len(self._hosts)))
+                return self._ask_one(path, request, min(left, self._patience / len(self._hosts)))
             except (OSError, http.client.HTTPException, ValueError, Elsewhere) as error:
                 why = str(error) or type(error).__name__
             self._next()
@@ -63,11 +63,12 @@ class Cluster:
             line = self._connected(max(0.0, min(end - time.monotonic(), self._patience)))
             answer = self._answer(line, "/v3/watch", {"create_request": create})
             while (left := end - time.monotonic()) > 0:
-                assert line.sock is not None
+                if line.sock is None:  # which a line has that was connected
+                    raise http.client.NotConnected
                 line.sock.settimeout(left)
-                told = answer.readline()
-                if not told or json.loads(told).get("result", {}).get("events"):
-                    return bool(told)
+                event = answer.readline()
+                if not event or json.loads(event).get("result", {}).get("events"):
+                    return bool(event)
         except TimeoutError:
             pass
         except (OSError, http.client.HTTPException, ValueError, Elsewhere):
@@ -76,8 +77,8 @@ class Cluster:
             self._next()  # the line has a watch, and nothing else can be asked over it
         return False
 
-    def _ask_one(self, path: str, told: dict[str, Any], patience: float) -> dict[str, Any]:
-        return self._found(self._answer(self._connected(patience), path, told))
+    def _ask_one(self, path: str, request: dict[str, Any], patience: float) -> dict[str, Any]:
+        return self._found(self._answer(self._connected(patience), path, request))
 
     def _found(self, answer: http.client.HTTPResponse) -> dict[str, Any]:
         """What a member answered. Elsewhere where another one may do it, LogAway where none would."""
@@ -99,12 +100,12 @@ class Cluster:
             self._line.connect()
         self._line.sock.settimeout(patience)
         if self._account and self._token is None:
-            told = {"name": self._account, "password": password_of(self._url) or ""}
-            self._token = str(self._found(self._answer(self._line, "/v3/auth/authenticate", told))["token"])
+            request = {"name": self._account, "password": password_of(self._url) or ""}
+            self._token = str(self._found(self._answer(self._line, "/v3/auth/authenticate", request))["token"])
         return self._line
 
-    def _answer(self, line: http.client.HTTPConnection, path: str, told: dict[str, Any]) -> http.client.HTTPResponse:
-        line.request("POST", path, json.dumps(told), {"Authorization": self._token} if self._token else {})
+    def _answer(self, line: http.client.HTTPConnection, path: str, request: dict[str, Any]) -> http.client.HTTPResponse:
+        line.request("POST", path, json.dumps(request), {"Authorization": self._token} if self._token else {})
         return line.getresponse()
 
     def _next(self) -> None:
@@ -127,10 +128,10 @@ def _tls_of(words: dict[str, str], name: str) -> ssl.SSLContext:
     return made
 
 
-def _host_of(told: str, url: str) -> tuple[str, int]:
+def _host_of(host: str, url: str) -> tuple[str, int]:
     """A host and its port. An address of IPv6 stands in brackets."""
     try:
-        parts = urlsplit(f"//{told}")
+        parts = urlsplit(f"//{host}")
         if not parts.hostname:
             raise ValueError("a host is missing")
         return parts.hostname, parts.port or _PORT

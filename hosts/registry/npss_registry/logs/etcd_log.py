@@ -140,7 +140,7 @@ class EtcdLog:
         own, *found = (list(pairs(one["response_range"])) for one in answer["responses"])
         if own and own[0][1][:_WORD] == word:
             return None  # an earlier try did it
-        return {shard: told[0][1] if told else None for shard, told in zip(values, found)}
+        return {shard: tail[0][1] if tail else None for shard, tail in zip(values, found)}
 
     def _keep(self, batches: dict[int, list[bytes]], word: bytes, tails: dict[int, Optional[bytes]], lasts: dict[int, int]) -> None:
         """Keeps what was written beside its tails."""
@@ -152,8 +152,8 @@ class EtcdLog:
     def begin(self, records: Sequence[tuple[int, bytes]]) -> None:
         # The first setup that is written whole stands; each shard's first record is copied from it, by whoever comes.
         key, word = self._prefix + b"/begun", secrets.token_bytes(_WORD)
-        told = json.dumps([[shard, body.decode("latin-1")] for shard, body in records]).encode()
-        self._cluster.ask("/v3/kv/txn", {"compare": [unchanged(key, None)], "success": [put(key, told)]})
+        setups = json.dumps([[shard, body.decode("latin-1")] for shard, body in records]).encode()
+        self._cluster.ask("/v3/kv/txn", {"compare": [unchanged(key, None)], "success": [put(key, setups)]})
         begun = [(int(shard), str(body).encode("latin-1")) for shard, body in json.loads(self._range(key)[0][1])]
         # That of the first shard, by which a log is known to be begun, comes last.
         for at in reversed(range(0, len(begun), SHARDS)):
@@ -178,15 +178,15 @@ class EtcdLog:
         found: list[_Record] = []
         at, last, limit = behind, _last_of(tail), _BATCHES
         while at < last and at - behind < most and (len(found) < 2 or size_of(found) < MOST_READ):
-            told = self._range(self._key(shard, at + 1), self._key(shard, _LAST_PLACE), limit)
-            if not told:
+            batches = self._range(self._key(shard, at + 1), self._key(shard, _LAST_PLACE), limit)
+            if not batches:
                 raise LogBroken(at + 1, _MISSING)
-            for key, value in told:
+            for key, value in batches:
                 found += self._batch(shard, (key, value), at, not found)
                 at = found[-1][0]
                 if at == last and value[:_WORD] == tail[:_WORD]:
                     self._seen[shard] = tail, _last_records(found)
-            limit = min(2 * limit, _MOST_BATCHES) if sum(len(value) for _, value in told) < _BYTES_READ else limit
+            limit = min(2 * limit, _MOST_BATCHES) if sum(len(value) for _, value in batches) < _BYTES_READ else limit
         return found
 
     def _batch(self, shard: int, pair: Pair, at: int, is_first: bool) -> list[_Record]:

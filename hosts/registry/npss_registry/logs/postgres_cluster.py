@@ -3,9 +3,9 @@
 import random
 import selectors
 import time
-from collections.abc import Iterator
+from collections.abc import Iterator, Sequence
 from contextlib import contextmanager
-from typing import Any, Optional
+from typing import Any, Optional, cast
 
 import psycopg
 from psycopg.conninfo import conninfo_to_dict, make_conninfo
@@ -48,10 +48,10 @@ class Connection(psycopg.Connection[Any]):
         except StopIteration as done:
             return done.value
 
-    def warned(self, told: psycopg.errors.Diagnostic) -> None:
+    def warned(self, diagnostic: psycopg.errors.Diagnostic) -> None:
         """Notes what the server warns of."""
-        if told.severity_nonlocalized == "WARNING":
-            self.warning = told.message_primary or "a warning"
+        if diagnostic.severity_nonlocalized == "WARNING":
+            self.warning = diagnostic.message_primary or "a warning"
 
 
 class Cluster:
@@ -60,11 +60,11 @@ class Cluster:
     def __init__(self, url: str, lock: str, single: bool, patience: float):
         self._url, self._lock, self._single, self._patience = url, lock, single, patience
         try:
-            self._told = conninfo_to_dict(without_words(url, PASSWORD_FILE))
+            self._words = conninfo_to_dict(without_words(url, PASSWORD_FILE))
         except psycopg.Error as error:
             raise StoreError(f"{shown(url)} names no server: {str(error).strip()}") from error
         # libpq would wait for ever at the first host that is stopped, so each is tried by itself.
-        hosts, ports = (str(self._told.get(word) or "").split(",") for word in ("host", "port"))
+        hosts, ports = (str(self._words.get(word) or "").split(",") for word in ("host", "port"))
         if any(port and not port.isdecimal() for port in ports) or len(ports) not in (1, len(hosts)):
             raise StoreError(f"{shown(url)} names no server: its ports are no numbers, or not as many as its hosts")
         self._hosts = [{"host": host, "port": port} for host, port in zip(hosts, ports * len(hosts) if len(ports) == 1 else ports)]
@@ -83,11 +83,11 @@ class Cluster:
         raise failed
 
     def _connected_to(self, host: dict[str, str], by: float) -> Connection:
-        words: dict[str, Any] = {**self._told, **{name: value for name, value in host.items() if value}, "target_session_attrs": "read-write",
+        words: dict[str, Any] = {**self._words, **{name: value for name, value in host.items() if value}, "target_session_attrs": "read-write",
                                  "client_encoding": "UTF8", "connect_timeout": max(1, int(by - time.monotonic()))}
         password = password_of(self._url)
-        base = Connection.connect(make_conninfo(**words, **({} if password is None else {"password": password})), autocommit=True)
-        assert isinstance(base, Connection)
+        made = Connection.connect(make_conninfo(**words, **({} if password is None else {"password": password})), autocommit=True)
+        base = cast(Connection, made)  # it is one of the class that connected
         base.add_notice_handler(base.warned)
         try:
             base.by = by
@@ -113,13 +113,12 @@ class Cluster:
         What a server that broke down had committed alone shows behind its restart. This commit stands behind all that shows, and
         waits for a standby. It does so under the lock, so that one of the server's processes hangs at most.
         """
-        found = base.execute(f"SELECT {SETTINGS}").fetchone()
-        assert found is not None
-        self.check(found)
+        settings, = base.execute(f"SELECT {SETTINGS}").fetchall()
+        self.check(settings)
         with self.writing(base):
             base.execute("SELECT pg_logical_emit_message(true, 'npss', '')")
 
-    def check(self, settings: tuple[str, str, str]) -> None:
+    def check(self, settings: Sequence[str]) -> None:
         """LogUnsafe where the settings of a server let it lose what it answers."""
         fsync, commit, standbys = settings
         if fsync != "on" or commit not in ("on", "remote_apply"):

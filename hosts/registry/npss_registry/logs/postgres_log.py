@@ -105,10 +105,9 @@ class PostgresLog:
 
     def _last_of_all(self, base: Connection) -> int:
         """The last place of any shard, by a query of its own: it sees what stood there when the lock was got."""
-        found = base.execute(self._sql(f"SELECT coalesce(max(place), 0), {SETTINGS} FROM {{table}}")).fetchone()
-        assert found is not None
-        self._cluster.check(found[1:])
-        return int(found[0])
+        (last, *settings), = base.execute(self._sql(f"SELECT coalesce(max(place), 0), {SETTINGS} FROM {{table}}")).fetchall()
+        self._cluster.check(settings)
+        return int(last)
 
     def _insert(self, base: Connection, behind: int, records: Sequence[tuple[int, bytes]]) -> list[int]:
         base.execute(self._sql(_INSERT), [behind, [shard for shard, _ in records], [body for _, body in records]])

@@ -62,9 +62,9 @@ class RedisLog:
         except redis.ResponseError as error:
             self._refuse(f"the Redis server doesn't tell how it writes: {error}")
 
-    def _check_settings(self, told: Any) -> None:
+    def _check_settings(self, config: Any) -> None:
         """The server is set so that it loses nothing. It tells pairs, in a list or as they were gathered."""
-        found = told if isinstance(told, dict) else dict(zip(told[::2], told[1::2]))
+        found = config if isinstance(config, dict) else dict(zip(config[::2], config[1::2]))
         settings = {_text(name): _text(value) for name, value in found.items()}
         wrong = [f"{name} {value}" for name, value in SETTINGS.items() if settings.get(name) != value]
         if wrong:
@@ -170,15 +170,15 @@ class RedisLog:
 
 
 def _away(error: Exception) -> LogAway:
-    told = str(error)
-    return LogAway(told if told.startswith("the log: ") else f"the log: {told}")
+    why = str(error)
+    return LogAway(why if why.startswith("the log: ") else f"the log: {why}")
 
 
-def _text(told: Any) -> str:
-    return told.decode(errors="replace") if isinstance(told, bytes) else str(told)
+def _text(value: Any) -> str:
+    return value.decode(errors="replace") if isinstance(value, bytes) else str(value)
 
 
-def _version_in(told: Any) -> Optional[str]:
+def _version_in(info: Any) -> Optional[str]:
     """The version of a server, which tells lines of what it is; None where it doesn't."""
-    found = re.search(r"^redis_version:(\d+\S*)", _text(told), re.MULTILINE)
+    found = re.search(r"^redis_version:(\d+\S*)", _text(info), re.MULTILINE)
     return found[1] if found else None

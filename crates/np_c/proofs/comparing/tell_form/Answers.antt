@@ -13,5 +13,5 @@ returns-in-Ok-is_form g c =
     let Own : Type 0 = IsNormalForm v form (chars text) (chars text) in
     let same : IsNormalForm v form (chars c.in-Ok.text.now) (chars c.in-Ok.text.now) → Own = subst (λ bs. IsNormalForm v form (chars bs) (chars bs)) c.in-Ok.ensures.text in
     let back : Own → IsNormalForm v form (chars c.in-Ok.text.now) (chars c.in-Ok.text.now) = subst (λ bs. IsNormalForm v form (chars bs) (chars bs)) (sym c.in-Ok.ensures.text) in
-    let told = tells Own c.in-Ok-is_form.yes (λ yes. same (c.in-Ok-is_form.ensures.0 yes), λ own. c.in-Ok-is_form.ensures.1 (back own)) in
-    subst (λ (a : Answer). IsOwnFormAnswer v c.args.letter text a) (sym c.told.ensures) (inr (form, c.in-Some.ensures.some, inl (c.in-Ok.ensures.valid, told)))
+    let answer = tells Own c.in-Ok-is_form.yes (λ yes. same (c.in-Ok-is_form.ensures.0 yes), λ own. c.in-Ok-is_form.ensures.1 (back own)) in
+    subst (λ (a : Answer). IsOwnFormAnswer v c.args.letter text a) (sym c.answer_of_truth.ensures) (inr (form, c.in-Some.ensures.some, inl (c.in-Ok.ensures.valid, answer)))

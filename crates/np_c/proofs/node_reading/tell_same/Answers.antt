@@ -40,6 +40,6 @@ returns-in-Some-same g c =
       how = inr (inr (
         equal,
         subst (λ (s : List ℕ). AnswersSame node c.args.left.now s (Some equal)) c.in-Some-whole_text.ensures.some first,
-        c.told.ensures ∙ told_both equal,
+        c.answer_of_truth.ensures ∙ told_both equal,
       ));
     }

@@ -1,6 +1,6 @@
 use Rattle.std.proofs.Common.{inl, inr, string_bytes}
 use Rattle.std.proofs.lemmas.Result.{IfErr-weaker, IfOk-weaker, err_from_is_err_and}
-use Rattle.np_jobs.specs.declared.ending.Made.{Made}
+use Rattle.np_jobs.specs.declared.ending.JobOutput.{JobOutput}
 use Rattle.np_jobs.proofs.key_under.made_of_input.Goals as goal
 
 pub returns-in_err-text-clause-refused : goal.returns-in_err-text-clause-refused
@@ -12,7 +12,7 @@ returns-in_err-text-clause-refused g c =
 pub returns-clause-made : goal.returns-clause-made
 returns-clause-made g c =
     IfOk-weaker c.make_own.result _ _
-    (λ (m : Made) makes. record {
+    (λ (m : JobOutput) makes. record {
       text = string_bytes c.in_ok-text.text;
       read = c.in_ok-text.ensures.read;
       valid = c.in_ok-text.ensures.valid;

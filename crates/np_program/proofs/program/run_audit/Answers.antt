@@ -1,47 +1,24 @@
-use Rattle.std.proofs.Common.{[], ◌∷◌, ◌++◌, ◌∙◌, refl}
-use Rattle.std.proofs.lemmas.Result.{err_from_is_err_and}
-use Rattle.np_code_points.specs.Watched.{device_of}
-use Rattle.np_jobs.proofs.OpeningLemmas.{all_zip-append, ends_before, unopened_among}
+use Rattle.std.proofs.Common.{[], ◌∷◌, inl, inr, refl}
+use Rattle.np_jobs.proofs.OpeningLemmas.{ends_before}
 use Rattle.np_jobs.specs.Audits.{AuditEnds}
 use Rattle.np_jobs.specs.Chains.{readers_of}
 use Rattle.np_jobs.specs.Streams.{stream_of}
-use Rattle.np_words.specs.Words.{names_of}
 use Rattle.np_program.proofs.program.run_audit.Goals as goal
 
-pub returns-in_err-old_data-clause-unopened : goal.returns-in_err-old_data-clause-unopened
-returns-in_err-old_data-clause-unopened g c =
-    let p = err_from_is_err_and c.from_residual.result c.from_residual.ensures.1 in
-    let opener = c.args.with.now.opener.now in
-    let old = names_of c.args.old.now in
-    let new = names_of c.args.new.now in
-    rw (p.1, p.2)
-    (unopened_among (g.P.Opener.gives opener) (g.P.Opener.lacks opener) g.E.Write.contents (old ++ new) [] old new [] c.args.streams.now.error c.args.streams.now.error c.open_version.new.error _
-    refl refl tt c.in_err-old_data.ensures.told)
+pub returns-in-Err-clause-ends : goal.returns-in-Err-clause-ends
+returns-in-Err-clause-ends g c = inr (c.in-Err.ensures.told, refl, refl)
 
-pub returns-in_err-data-clause-unopened : goal.returns-in_err-data-clause-unopened
-returns-in_err-data-clause-unopened g c =
-    let p = err_from_is_err_and c.from_residual-in_err-data.result c.from_residual-in_err-data.ensures.1 in
-    let tells = g.P.File.Read.remaining in
-    let opener = c.args.with.now.opener.now in
-    let old = names_of c.args.old.now in
-    let new = names_of c.args.new.now in
-    rw (p.1, p.2)
-    (unopened_among (g.P.Opener.gives opener) (g.P.Opener.lacks opener) g.E.Write.contents (old ++ new) old new [] (tells (device_of c.in_ok-old_data.old_data) ∷ (tells (device_of c.in_ok-old_data.old_exclusions) ∷ []))
-    c.args.streams.now.error c.open_version.new.error c.open_version-2.new.error _
-    c.in_ok-old_data.ensures.silent refl c.in_ok-old_data.ensures.files c.in_err-data.ensures.told)
-
-pub returns-clause-done : goal.returns-clause-done
-returns-clause-done g c =
-    let tells = g.P.File.Read.remaining in
-    let readers = readers_of tells
-    (c.in_ok-old_data.old_data ∷ c.in_ok-old_data.old_exclusions ∷ c.in_ok-data.data ∷ c.in_ok-data.exclusions ∷ [])
-    (c.audit_job.new.old_data_file ∷ c.audit_job.new.old_exclusions_file ∷ c.audit_job.new.new_data_file ∷ c.audit_job.new.new_exclusions_file ∷ []) in
-    let output = stream_of g.O.Write.contents c.args.streams.now.output c.audit_job.new.output in (
+pub returns-in-Ok-clause-ends : goal.returns-in-Ok-clause-ends
+returns-in-Ok-clause-ends g c =
+    let pair = c.in-Ok.pair in
+    let after = c.audit_job.new in
+    let readers = readers_of g.P.File.Read.remaining
+    (pair.old_data ∷ pair.old_exclusions ∷ pair.new_data ∷ pair.new_exclusions ∷ [])
+    (after.old_data_file ∷ after.old_exclusions_file ∷ after.new_data_file ∷ after.new_exclusions_file ∷ []) in
+    let output = stream_of g.O.Write.contents c.args.streams.now.output after.output in
+    inl (
       readers,
-      all_zip-append (g.P.Opener.gives c.args.with.now.opener.now) (names_of c.args.old.now) (names_of c.args.new.now)
-          (tells (device_of c.in_ok-old_data.old_data) ∷ (tells (device_of c.in_ok-old_data.old_exclusions) ∷ []))
-          (tells (device_of c.in_ok-data.data) ∷ (tells (device_of c.in_ok-data.exclusions) ∷ []))
-          c.in_ok-old_data.ensures.files c.in_ok-data.ensures.files,
+      c.in-Ok.ensures.files,
       ends_before g.E.Write.contents (λ error. AuditEnds readers output error c.audit_job.result)
-          c.args.streams.now.error c.open_version-2.new.error c.audit_job.new.error (c.in_ok-data.ensures.silent ∙ c.in_ok-old_data.ensures.silent) c.audit_job.ensures,
+          c.args.streams.now.error c.open_pair.new.error after.error c.in-Ok.ensures.silent c.audit_job.ensures,
     )

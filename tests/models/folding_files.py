@@ -1,11 +1,11 @@
 """What CaseFolding.txt says beside its version, judged anew: a small reader of it, of lowercases and of the five conditions.
 
-It is written from docs/FORMATS.md and docs/STANDARD.md alone, beside the program, as judge.py is, whose version it takes.
+It is written from docs/FORMATS.md and docs/STANDARD.md alone, beside the program, as data_files.py is, whose version it takes.
 """
 
 import re
 
-from models import judge
+from models import data_files
 
 STATUSES = (b"C", b"F", b"S", b"T")
 LONGEST = 64
@@ -19,8 +19,8 @@ def record_of(line):
 
 def mapping_of(field):
     """The codes of a mapping, None where one of them is none or a surrogate."""
-    codes = [judge.code_in(word) for word in re.split(rb" +", field)]
-    return None if any(code is None or judge.is_surrogate(code) for code in codes) else tuple(codes)
+    codes = [data_files.code_in(word) for word in re.split(rb" +", field)]
+    return None if any(code is None or data_files.is_surrogate(code) for code in codes) else tuple(codes)
 
 
 def conflicts(status, code, before):
@@ -34,7 +34,7 @@ def fault_of(fields, before):
     """The first fault of a record behind the one before, or None."""
     if len(fields) != 4 or fields[3]:
         return "FieldCount"
-    code, status = judge.code_in(fields[0]), fields[1]
+    code, status = data_files.code_in(fields[0]), fields[1]
     if code is None:
         return "BadCode"
     if status not in STATUSES:
@@ -44,20 +44,20 @@ def fault_of(fields, before):
     if conflicts(status, code, before):
         return "StatusConflict"
     mapping, counts = mapping_of(fields[2]), range(2, 33) if status == b"F" else range(1, 2)
-    return "BadMapping" if mapping is None or len(mapping) not in counts or judge.is_surrogate(code) else None
+    return "BadMapping" if mapping is None or len(mapping) not in counts or data_files.is_surrogate(code) else None
 
 
 def foldings_of(data):
     """What folds, to what; or the line and the name of the first fault."""
     found, before = {}, None
-    for number, line in enumerate(judge.lines_of(data), 1):
+    for number, line in enumerate(data_files.lines_of(data), 1):
         fields = record_of(line)
         if fields is None:
             continue
         fault = fault_of(fields, before)
         if fault:
             return None, (number, fault)
-        code = judge.code_in(fields[0])
+        code = data_files.code_in(fields[0])
         if fields[1] in (b"C", b"F") and mapping_of(fields[2]) != (code,):
             found[code] = mapping_of(fields[2])
         before = (code, fields[1])
@@ -67,11 +67,11 @@ def foldings_of(data):
 def lowercases_of(data):
     """The lowercase of each code point that has one, of the bytes of a data file without a fault."""
     found = {}
-    for line in judge.lines_of(data):
-        if judge.is_skipped(line):
+    for line in data_files.lines_of(data):
+        if data_files.is_skipped(line):
             continue
         fields = line.split(b";")
-        lower = judge.code_in(fields[13].strip(b" "))
+        lower = data_files.code_in(fields[13].strip(b" "))
         if lower is not None and not fields[1].endswith((b", First>", b", Last>")):
             found[int(fields[0], 16)] = lower
     return found
@@ -85,7 +85,7 @@ class Decompositions:
 
     def kind(self, code):
         """The kind of the mapping; that of a syllable of the arithmetic is canonical."""
-        if self.version.hangul and code in judge.SYLLABLES:
+        if self.version.hangul and code in data_files.SYLLABLES:
             return "canonical"
         row = self.version.mapped.get(code)
         return row.kind if row else "none"
@@ -132,7 +132,7 @@ class Folded:
 
     def candidates(self):
         """All code points at which a condition can be broken."""
-        syllables = judge.SYLLABLES if self.version.hangul and any(code in self.foldings for part in judge.HANGUL for code in part) else ()
+        syllables = data_files.SYLLABLES if self.version.hangul and any(code in self.foldings for part in data_files.HANGUL for code in part) else ()
         return {*self.foldings, *self.version.mapped, *self.lowercases, *syllables}
 
     def faults_at(self, code):
