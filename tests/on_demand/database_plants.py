@@ -28,7 +28,7 @@ KEYS, REFUSALS, QUESTIONS, WHY, RECORD, RAISE, OWNER, FILES, VERSIONS, SETTINGS,
 SQL, NEWER_SQL, CASELESS_SQL, CONTROL = (f"postgresql/{name}" for name in ("npss--0.2.sql", "npss--0.2--0.3.sql", "npss--0.3--0.4.sql", "npss.control"))
 MOVING = "docs/MOVING.md"
 PAGE, COMMON, COMMON_HEAD = "docs/DATABASES.md", "common.c", "common.h"
-LITE, LITE_RECORD, LITE_RAISE, LITE_FILES, LITE_ATTACHED = (f"sqlite/{name}.c" for name in ("npss_sqlite", "record", "raise", "files", "attached"))
+LITE, LITE_RECORD, LITE_WATCH, LITE_RAISE, LITE_FILES, LITE_ATTACHED = (f"sqlite/{name}.c" for name in ("npss_sqlite", "record", "watch", "raise", "files", "attached"))
 
 # The tests that are meant to find a bug, where it names no others.
 FIRST = {"postgresql": ["Regress"], "sqlite": ["Raises"]}
@@ -199,8 +199,8 @@ PLANTS = {
     "SQLite: audited tables stay open": (LITE_RAISE, "            else fail_memory(call);\n        }\n    }\n    npss_close(&fresh);", "            else fail_memory(call);\n        }\n    }", "Memory"),
     "SQLite: any record keeps npss_open away": (LITE_RAISE, "ask_number(self->db, \"SELECT assigned FROM main.npss_record\"", "ask_number(self->db, \"SELECT assigned FROM npss_record\""),
     # SQLite: which tables are in use
-    "SQLite: a raise that is rolled back stays in use": (LITE_RECORD, "settle(self, &now, !sqlite3_get_autocommit(self->db));", "settle(self, &now, 0);"),
-    "SQLite: behind a raise each key looks at the record": (LITE_RECORD, "settle(self, &now, !sqlite3_get_autocommit(self->db));", "settle(self, &now, 1);", "Looks"),
+    "SQLite: a raise that is rolled back stays in use": (LITE_WATCH, "    if (told->taken) told->is_undone = 1;\n", ""),
+    "SQLite: behind a raise each key looks at the record": (LITE_RECORD, "settle(self, &now, !sqlite3_get_autocommit(self->db) && !self->watch.takes_part);", "settle(self, &now, 1);", "Looks"),
     "SQLite: behind a raise's transaction each key looks at the record": (LITE_RECORD, "self->may_be_undone && now->pager == self->seen.pager", "self->may_be_undone", "Looks"),
     "SQLite: a replaced database keeps its tables": (LITE_RECORD, "return data_version(self->db, NULL) == self->seen.pager;", "return 1;", "Replaced"),
     "SQLite: a schema that changed is not looked at": (LITE_RECORD, " || now.schema != self->seen.schema;", ";", "Replaced"),
@@ -210,9 +210,9 @@ PLANTS = {
     "SQLite: a statement that goes on keeps tables that were taken back": (LITE_RECORD, "sqlite3_get_auxdata(call, SEEN_TO) == (void *)self->number) return 1;", "sqlite3_get_auxdata(call, SEEN_TO)) return 1;", "Replaced"),
     "SQLite: a statement without tables doesn't look at the file": (LITE_RECORD, "if (transaction == 0) ask_number", "if (0) ask_number", "Replaced"),
     "SQLite: a statement without tables begins a transaction": (LITE_RECORD, "    if (sqlite3_get_autocommit(self->db)) {\n        sqlite3_int64 told;", "    {\n        sqlite3_int64 told;", "Looks"),
-    "SQLite: another's commit is not looked at": (LITE_RECORD, "is_kept(self) && now.data == self->seen.data && now", "is_kept(self) && now"),
+    "SQLite: another's commit is not looked at": (LITE_RECORD, "!self->own.is_open && now.data == self->seen.data && now", "!self->own.is_open && now"),
     "SQLite: what isn't committed stays in use": (LITE_RECORD, "may_be_undone || dirty != 0", "may_be_undone", "Replaced"),
-    "SQLite: a record that is taken back stays in use": (LITE_RECORD, "return is_new && now->data", "return 0 && is_new && now->data", "Replaced"),
+    "SQLite: a record that is taken back unseen stays in use": (LITE_RECORD, "(is_new && self->is_recorded && now->transaction > 1)", "0", "Undone"),
     "SQLite: a record and opened tables needn't fit": (LITE_RECORD, "fits_own(call, self, &fresh) && use", "(fits_own(call, self, &fresh) || 1) && use", "Opened"),
     "SQLite: a record has to extend opened tables": (LITE_RECORD, "keeps_keys(recorded, &self->own, both).status == NPSS_DONE", "0", "Opened"),
     "SQLite: a first raise that is rolled back stays in use": (LITE_RECORD, "if (found < 0 && !use_own(call, self)) return 0;", "if (found < -1 && !use_own(call, self)) return 0;"),
@@ -223,13 +223,29 @@ PLANTS = {
     "SQLite: the record of any database": (LITE_RECORD, "\"SELECT 2 * assigned + (folding IS NOT NULL) FROM main.npss_record\"", "\"SELECT 2 * assigned + (folding IS NOT NULL) FROM npss_record\""),
     "SQLite: the files of any database": (LITE_RECORD, "\"SELECT data, exclusions, folding FROM main.npss_record\"", "\"SELECT data, exclusions, folding FROM npss_record\""),
     # SQLite: attached databases
-    "SQLite: attached databases are written under another version": (LITE_ATTACHED, "        if (!fits(call, self, name)) return 0;\n", "        if (!fits(call, self, name) && 0) return 0;\n", "Attached"),
+    "SQLite: attached databases are written under another version": (LITE_ATTACHED, "        if (!(fitted = fits(call, self, name))) return 0;\n", "        if (!(fitted = fits(call, self, name)) && 0) return 0;\n", "Attached"),
     "SQLite: attached files of the same counts fit": (LITE_ATTACHED, "a.data = b.data AND a.exclusions = b.exclusions", "length(a.data) = length(b.data)", "Attached"),
     "SQLite: tables that can't be shared are in use": (LITE_RECORD, "    self->number++;\n    forget_attached(self);\n    if (a.status", "    self->number++;\n    self->assigned = (sqlite3_int64)npss_count(tables).length;\n    forget_attached(self);\n    if (a.status", "Memory"),
     "SQLite: an attached database fits for ever": (LITE_RECORD, "    forget_attached(self);\n", "", "Attached"),
     "SQLite: an attached database that is read has to fit": (LITE_ATTACHED, "== SQLITE_TXN_WRITE) return name", ">= SQLITE_TXN_READ) return name", "Attached"),
-    "SQLite: an attached database in memory fits for ever": (LITE_ATTACHED, "if (mark == name) return 0;", "if (0) return 0;", "Attached"),
-    "SQLite: each write of an attached database compares it": (LITE_ATTACHED, "        slot->data_version = now;\n", "        return 0;\n", "Attached"),
+    "SQLite: an attached database fits the next one of its name": (LITE_ATTACHED, "    if (may_be_detached(self)) forget_attached(self);\n", "", "Beneath"),
+    "SQLite: each write of an attached database compares it": (LITE_ATTACHED, "    slot->told = self->watch;\n    return 1;\n", "    return 0;\n", "Attached"),
+    "SQLite: an attached record that is taken back fits": (LITE_ATTACHED, " && slot->told.undone == self->watch.undone;", ";", "Beneath"),
+    "SQLite: an attached schema changes unseen": (LITE_ATTACHED, "(self->watch.takes_part && slot->told.turns == self->watch.turns);", "1;", "Beneath"),
+    "SQLite: what is told of the main one counts for an attached one before": (LITE_WATCH, "    told->depth = 0;\n    told->turns++;\n", "    told->depth = 0;\n", "Beneath"),
+    "SQLite: an empty attached record fits": (LITE_ATTACHED, "return -1; /* it is empty */", "return 1; /* it is empty */", "Beneath"),
+    # SQLite: what a rollback takes back
+    "SQLite: a rollback to a savepoint leaves what was read": (LITE_WATCH, "    if (told->taken > number + 1) told->is_undone = 1;\n", "", "Undone"),
+    "SQLite: each rollback to a savepoint takes the record back": (LITE_WATCH, "if (told->taken > number + 1) told->is_undone = 1;", "if (told->taken) told->is_undone = 1;", "Undone"),
+    "SQLite: what was read within a savepoint stays there": (LITE_WATCH, "    if (told->taken > number + 1) told->taken = number + 1;\n", "", "Undone"),
+    "SQLite: what was read is of the whole transaction": (LITE_WATCH, "self->watch.depth + 1 : 0;", "1 : 0;", "Undone"),
+    "SQLite: what is committed is taken back by the next rollback": (LITE_WATCH, "told_of(at)->takes_part = told_of(at)->taken = 0;", "told_of(at)->takes_part = 0;", "Undone"),
+    "SQLite: one transaction is told of": (LITE_WATCH, "told_of(at)->takes_part = told_of(at)->taken = 0;", "told_of(at)->taken = 0;", "Undone"),
+    "SQLite: a table that is dropped within a transaction is not told of": (LITE_WATCH, "    told_of(at)->turns++;\n", "", "Undone"),
+    "SQLite: a transaction that writes is not told of": (LITE_RECORD, "return self->watch.takes_part || sqlite3_get_autocommit(self->db) ||", "return 1 ||", "Undone"),
+    "SQLite: each key of a transaction looks at the record": (LITE_RECORD, "    if (!sqlite3_get_autocommit(self->db)) is_watched(self);\n", "", "Looks"),
+    "SQLite: somebody's table is emptied": (LITE_WATCH, "DELETE FROM main.npss_watch WHERE 0", "DELETE FROM main.npss_watch", "Undone"),
+    "SQLite: a schema may name the table that is told": (LITE_WATCH, "return sqlite3_vtab_config(db, SQLITE_VTAB_DIRECTONLY);", "return SQLITE_OK;", "Undone"),
     # SQLite: files
     "SQLite: a pipe is waited for": (COMMON_HEAD, "O_RDONLY | O_NONBLOCK", "O_RDONLY", "Files"),
     "SQLite: a device is read": (COMMON, "|| !S_ISREG(about.st_mode)", "", "Files"),
