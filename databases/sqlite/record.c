@@ -207,7 +207,8 @@ static int look(sqlite3_context *call, connection *self) {
     state now = state_now(self);
     int found = 1, is_new = !self->tables.is_open || self->watch.is_undone || now.schema == UNTOLD || now.schema != self->seen.schema;
     int is_sure = is_kept(self) && !self->own.is_open && now.data == self->seen.data && now.transaction >= self->seen.transaction;
-    if (self->may_be_undone && now.pager != self->seen.pager) is_new = 1; /* another one may be recorded behind its rollback */
+    /* Another one may be recorded behind its rollback, and what is told from now on is of what is read from now on. */
+    if (self->may_be_undone && (now.pager != self->seen.pager || self->watch.takes_part)) is_new = 1;
     if (!is_new && is_sure) {
         self->seen = now; /* the connection's own commits, none of which wrote the record */
         return 1;

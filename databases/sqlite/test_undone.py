@@ -186,6 +186,18 @@ class Undone(Folded):
             if shadows:
                 self.assertEqual(base.execute("SELECT name FROM npss_watch").fetchall(), [("kept",)])
 
+    def test_where_the_table_that_is_told_may_be_used_later(self):
+        base = self.connect()
+        rows = {name: [text for text in self.dump(name) if 'INTO "npss_record"' in text] for name in self.KEYS}
+        base.execute(OLDER_RECORD.replace("exclusions BLOB", "exclusions BLOB, folding BLOB"))
+        base.set_authorizer(lambda action, name, *_: sqlite3.SQLITE_DENY if (action, name) == (sqlite3.SQLITE_DELETE, "npss_watch") else sqlite3.SQLITE_OK)
+        self.read(base, ["BEGIN", *rows["v2"]])
+        self.assertEqual(self.asked(base, "npss_caseless_key('A')"), "a")
+        base.set_authorizer(None)
+        self.assertEqual(self.asked(base, "npss_caseless_key('A')"), "a")
+        self.read(base, ["ROLLBACK", "BEGIN", *rows["changed"]])
+        self.assertEqual(self.asked(base, "npss_caseless_key('A')"), "\u00e2")
+
     def test_the_table_that_is_told_has_nothing(self):
         base = self.with_accounts(self.room / "v2")
         self.assertEqual(base.execute("SELECT rowid, * FROM npss_watch").fetchall(), [])
