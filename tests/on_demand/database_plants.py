@@ -204,7 +204,8 @@ PLANTS = {
     "SQLite: behind a raise's transaction each key looks at the record": (LITE_RECORD, "self->may_be_undone && now->pager == self->seen.pager", "self->may_be_undone", "Looks"),
     "SQLite: a replaced database keeps its tables": (LITE_RECORD, "return data_version(self->db, NULL) == self->seen.pager;", "return 1;", "Replaced"),
     "SQLite: a schema that changed is not looked at": (LITE_RECORD, " || now.schema != self->seen.schema;", ";", "Replaced"),
-    "SQLite: behind a rollback as many code points are the same version": (LITE_RECORD, "if (self->may_be_undone && now.pager != self->seen.pager) is_new = 1;", "", "Replaced"),
+    "SQLite: behind a rollback as many code points are the same version": (LITE_RECORD, "now.pager != self->seen.pager || self->watch.takes_part)) is_new = 1;", "self->watch.takes_part)) is_new = 1;", "Replaced"),
+    "SQLite: what is told later is of what was read before": (LITE_RECORD, "now.pager != self->seen.pager || self->watch.takes_part)) is_new = 1;", "now.pager != self->seen.pager)) is_new = 1;", "Undone"),
     "SQLite: behind a rollback a transaction doesn't look again": (LITE_RECORD, "(self->db) && is_as_seen(self); /*", "(self->db); /*", "Foldings"),
     "SQLite: where no PRAGMA may be asked nothing is looked at": (LITE_RECORD, "now.schema == UNTOLD || ", "", "Replaced"),
     "SQLite: a statement that goes on keeps tables that were taken back": (LITE_RECORD, "sqlite3_get_auxdata(call, SEEN_TO) == (void *)self->number) return 1;", "sqlite3_get_auxdata(call, SEEN_TO)) return 1;", "Replaced"),
@@ -244,6 +245,7 @@ PLANTS = {
     "SQLite: a table that is dropped within a transaction is not told of": (LITE_WATCH, "    told_of(at)->turns++;\n", "", "Undone"),
     "SQLite: a transaction that writes is not told of": (LITE_RECORD, "return self->watch.takes_part || sqlite3_get_autocommit(self->db) ||", "return 1 ||", "Undone"),
     "SQLite: each key of a transaction looks at the record": (LITE_RECORD, "    if (!sqlite3_get_autocommit(self->db)) is_watched(self);\n", "", "Looks"),
+    "SQLite: a kept statement is left to the connection": (LITE_WATCH, "    sqlite3_finalize(told->kept);\n    told->kept = NULL;\n", "", "Memory"),
     "SQLite: somebody's table is emptied": (LITE_WATCH, "DELETE FROM main.npss_watch WHERE 0", "DELETE FROM main.npss_watch", "Undone"),
     "SQLite: a schema may name the table that is told": (LITE_WATCH, "return sqlite3_vtab_config(db, SQLITE_VTAB_DIRECTONLY);", "return SQLITE_OK;", "Undone"),
     # SQLite: files
