@@ -196,7 +196,7 @@ PLANTS = {
     "SQLite: the record is open to all": (LITE_RAISE, "BEFORE UPDATE ON npss_record WHEN NOT", "BEFORE UPDATE ON npss_record WHEN"),
     "SQLite: triggers write beside a raise": (LITE_RAISE, "if (self->writes > 0) self->writes--;", ""),
     "SQLite: the record is open behind a raise": (LITE_RAISE, "done = fail_by_database(call);\n    self->writes = 0;", "done = fail_by_database(call);\n    self->writes++;"),
-    "SQLite: audited tables stay open": (LITE_RAISE, "            else fail_memory(call);\n        }\n    }\n    npss_close(&fresh);", "            else fail_memory(call);\n        }\n    }", "Memory"),
+    "SQLite: audited tables stay open": (LITE_RAISE, "            else fail_memory(call);\n        }\n    }\n    npss_close(&fresh);", "            else fail_memory(call);\n        }\n    }", "Memory.test_nothing_is_left_of_what_failed"),
     "SQLite: any record keeps npss_open away": (LITE_RAISE, "ask_number(self->db, \"SELECT assigned FROM main.npss_record\"", "ask_number(self->db, \"SELECT assigned FROM npss_record\""),
     # SQLite: which tables are in use
     "SQLite: a raise that is rolled back stays in use": (LITE_WATCH, "    if (told->taken) told->is_undone = 1;\n", ""),
@@ -245,7 +245,7 @@ PLANTS = {
     "SQLite: a table that is dropped within a transaction is not told of": (LITE_WATCH, "    told_of(at)->turns++;\n", "", "Undone"),
     "SQLite: a transaction that writes is not told of": (LITE_RECORD, "return self->watch.takes_part || sqlite3_get_autocommit(self->db) ||", "return 1 ||", "Undone"),
     "SQLite: each key of a transaction looks at the record": (LITE_RECORD, "    if (!sqlite3_get_autocommit(self->db)) is_watched(self);\n", "", "Looks"),
-    "SQLite: a kept statement is left to the connection": (LITE_WATCH, "    sqlite3_finalize(told->kept);\n    told->kept = NULL;\n", "", "Memory"),
+    "SQLite: a kept statement is left to the connection": (LITE_WATCH, "    sqlite3_finalize(told->kept);\n    told->kept = NULL;\n", "", "Memory.test_nothing_is_touched_out_of_bounds"),
     "SQLite: somebody's table is emptied": (LITE_WATCH, "DELETE FROM main.npss_watch WHERE 0", "DELETE FROM main.npss_watch", "Undone"),
     "SQLite: a schema may name the table that is told": (LITE_WATCH, "return sqlite3_vtab_config(db, SQLITE_VTAB_DIRECTONLY);", "return SQLITE_OK;", "Undone"),
     # SQLite: files
@@ -254,7 +254,7 @@ PLANTS = {
     "SQLite: a file is left open": (LITE_FILES, "        close(file);\n", "", "Files"),
     "SQLite: a file of the greatest size is too large": (COMMON, "about.st_size > MOST_OF_A_FILE", "about.st_size >= MOST_OF_A_FILE", "Files"),
     "SQLite: the exclusions may be a text": (LITE_FILES, "if (sqlite3_value_type(given[i]) != SQLITE_BLOB)", "if (sqlite3_value_type(given[0]) != SQLITE_BLOB)", "Files"),
-    "SQLite: a file is left in memory": (LITE_FILES, "for (int i = 0; i < FILE_COUNT; i++) sqlite3_free(", "for (int i = 1; i < FILE_COUNT; i++) sqlite3_free(", "Memory"),
+    "SQLite: a file is left in memory": (LITE_FILES, "for (int i = 0; i < FILE_COUNT; i++) sqlite3_free(", "for (int i = 1; i < FILE_COUNT; i++) sqlite3_free(", "Memory.test_nothing_is_left_of_what_failed"),
     "SQLite: the files stand in the wrong order": (LITE_RECORD, "{{blob(row, DATA_FILE), blob(row, EXCLUSIONS_FILE),", "{{blob(row, EXCLUSIONS_FILE), blob(row, DATA_FILE),"),
     # SQLite: foldings
     "SQLite: foldings are not compared": (COMMON, "return caseless ? npss_caseless_extends(older, newer) : npss_extends(older, newer);", "return caseless ? npss_extends(older, newer) : npss_extends(older, newer);", "Foldings"),
@@ -275,15 +275,15 @@ PLANTS = {
     "SQLite: a third blob may be a text": (LITE_FILES, "for (int i = 0; i < count; i++) {\n        if (sqlite3_value_type(given[i])", "for (int i = 0; i < count; i++) {\n        if (i < FOLDING_FILE && sqlite3_value_type(given[i])", "Foldings"),
     "SQLite: a third file that can't be opened is left out": (LITE_FILES, "which == FOLDING_FILE && errno == ENOENT", "which == FOLDING_FILE && errno", "Foldings"),
     # SQLite: keys
-    "SQLite: the room is told one byte too large": (LITE, "text, length, self->room, ROOM);", "text, length, self->room, ROOM + 1);", "Memory"),
-    "SQLite: a large room is one byte short": (LITE, "sqlite3_malloc64(size);", "sqlite3_malloc64(size - 1);", "Memory"),
+    "SQLite: the room is told one byte too large": (LITE, "text, length, self->room, ROOM);", "text, length, self->room, ROOM + 1);", "Memory.test_nothing_is_touched_out_of_bounds"),
+    "SQLite: a large room is one byte short": (LITE, "sqlite3_malloc64(size);", "sqlite3_malloc64(size - 1);", "Memory.test_nothing_is_touched_out_of_bounds"),
     "SQLite: an index stands on npss_normalize": (LITE, "{\"npss_normalize\", 2, ASK,", "{\"npss_normalize\", 2, KEY,", "Indexes"),
     "SQLite: a key is not innocuous": (LITE, "KEY = SQLITE_UTF8 | SQLITE_DETERMINISTIC | SQLITE_INNOCUOUS", "KEY = SQLITE_UTF8 | SQLITE_DETERMINISTIC", "Indexes"),
     "SQLite: a schema raises": (LITE, "DIRECT = SQLITE_UTF8 | SQLITE_DIRECTONLY", "DIRECT = SQLITE_UTF8", "Indexes"),
     "SQLite: a key ends at U+0000": (LITE, "(char *)self->room, a.length, SQLITE_TRANSIENT", "(char *)self->room, memchr(self->room, 0, a.length) ? 1 : a.length, SQLITE_TRANSIENT", "Functions"),
     "SQLite: a text is taken as it stands": (LITE, "(*length = (size_t)sqlite3_value_bytes(value)) > 0", "(text = sqlite3_value_blob(value)) && (*length = (size_t)sqlite3_value_bytes(value)) > 0", "Functions"),
-    "SQLite: a long key is not freed": (LITE, "room, a.length, sqlite3_free, SQLITE_UTF8", "room, a.length, SQLITE_TRANSIENT, SQLITE_UTF8", "Memory"),
-    "SQLite: a connection's tables are not closed": (LITE, "    npss_close(&self->tables);\n", "", "Memory"),
+    "SQLite: a long key is not freed": (LITE, "room, a.length, sqlite3_free, SQLITE_UTF8", "room, a.length, SQLITE_TRANSIENT, SQLITE_UTF8", "Memory.test_nothing_is_touched_out_of_bounds"),
+    "SQLite: a connection's tables are not closed": (LITE, "    npss_close(&self->tables);\n", "", "Memory.test_nothing_is_left_of_what_failed"),
     "SQLite: why it can't be loaded is not told": (LITE, "if (code != SQLITE_OK && error)", "if (0 && error)"),
 }
 
