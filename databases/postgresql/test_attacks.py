@@ -36,9 +36,13 @@ class Attacks(Case):
         self.assertEqual(self.server.sql("SELECT ready FROM npss_ready('15.0')", base), "t")
 
     def test_other_exclusions(self):
-        base = self.with_account("excluded")
-        self.swapped((VERSIONS / "14.0" / FILES[1]).read_bytes() + b"# the same\n", FILES[1])
-        self.refused("55000", f"SELECT npss_nfc('{MARKED}')", base)
+        # One has more bytes, and one as many: two lines stand in each other's place.
+        base, content = self.with_account("excluded"), (VERSIONS / "14.0" / FILES[1]).read_bytes()
+        first, second, *more = content.splitlines(True)
+        for other in (content + b"# the same\n", b"".join((second, first, *more))):
+            self.swapped(other, FILES[1])
+            self.refused("55000", f"SELECT npss_nfc('{MARKED}')", base)
+            self.doCleanups()
 
     def test_a_file_that_was_cut(self):
         base = self.with_account("cut")

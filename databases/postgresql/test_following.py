@@ -32,6 +32,24 @@ class Following(Apart):
             self.assertIn("23514", session.ask("SELECT 'STRASSE'::street"))
             self.doCleanups()
 
+    def test_two_dumps_in_one_session_of_which_the_first_is_rolled_back(self):
+        lines = (CASED / "13.0" / FOLDING).read_text(encoding="utf-8").splitlines(True)
+        other = "".join(line for line in lines if not line.startswith("00DF;")).encode()
+        brings = ("CREATE EXTENSION npss; CREATE TABLE account (name text); CREATE UNIQUE INDEX ON account (npss_caseless_nfkc(name) COLLATE \"C\");"
+                  "INSERT INTO account VALUES ('Stra\u00dfe'); SELECT npss_caseless_nfkc(name) FROM account")
+        for begin, end in (("BEGIN", "ROLLBACK; BEGIN"), ("BEGIN; SAVEPOINT one", "ROLLBACK TO one")):
+            for first, second, keys in ((other, None, "stra\u00dfe\nstrasse"), (None, other, "strasse\nstra\u00dfe")):
+                base = self.base("dumps")
+                session = self.session(base)
+                session.ask("SET npss.version = '13.0'; SET client_min_messages = warning")
+                self.put("13.0", first)
+                told = session.ask(f"{begin}; {brings}; {end}")
+                self.put("13.0", second)
+                self.assertEqual(f"{told}\n" + session.ask(f"{brings}; COMMIT"), keys, (begin, keys))
+                key = keys.split()[1]
+                self.assertEqual(self.server.sql(f"SET enable_seqscan = off; SELECT count(*) FROM account WHERE npss_caseless_nfkc(name) COLLATE \"C\" = '{key}'", base), "1")
+                self.doCleanups()
+
     def test_a_session_that_lags_follows_by_caseless_calls(self):
         base = self.base("lagging", "13.0")
         self.put("15.0")

@@ -42,11 +42,13 @@ static int ask_same_files(sqlite3 *db, const char *name, sqlite3_int64 *told) {
                                         main ? "NULL" : "a.folding", other ? "NULL" : "b.folding", name), told);
 }
 
-/* Sees to it that an attached database records no version, or that of the main database; 0 where an error is set. */
+/* Sees to it that an attached database records no version, or that of the main database: 1; -1 where its record may come without
+ * a change of its schema; 0 where an error is set. */
 static int fits(sqlite3_context *call, connection *self, const char *name) {
     sqlite3_int64 told = 0;
     int code = ask_attached(self->db, "SELECT 1 FROM \"%w\".npss_record", name, &told);
-    if (code == SQLITE_ERROR || code == SQLITE_DONE) return 1; /* there is no such table, or it is empty */
+    if (code == SQLITE_ERROR) return 1; /* there is no such table */
+    if (code == SQLITE_DONE) return -1; /* it is empty */
     told = 0;
     if (code == SQLITE_ROW && self->is_recorded) code = ask_same_files(self->db, name, &told);
     if (code != SQLITE_ROW) return fail_by_database(call);
@@ -55,40 +57,43 @@ static int fits(sqlite3_context *call, connection *self, const char *name) {
                                       "it through a connection of its own", name, told ? "folding" : "version of Unicode"));
 }
 
-/* By what an attached database is known again: its file. One in memory is known by its name, and only within a transaction,
- * which nobody detaches it from. NULL where it isn't known again. */
+/* By what an attached database is known again: its file, or its name where it is in memory. */
 static const char *mark_of(sqlite3 *db, const char *name) {
     const char *file = sqlite3_db_filename(db, name);
-    if (file && *file) return file;
-    return sqlite3_get_autocommit(db) ? NULL : name;
+    return file && *file ? file : name;
 }
 
 /* Remembers that an attached database fits as it is. */
 static void remember(connection *self, const char *name, int number) {
-    const char *mark = mark_of(self->db, name);
     fitting *slot = &self->attached[number];
     sqlite3_free(slot->mark);
-    slot->mark = mark ? sqlite3_mprintf("%s", mark) : NULL;
+    slot->mark = sqlite3_mprintf("%s", mark_of(self->db, name));
     slot->data_version = data_version(self->db, name);
+    slot->told = self->watch;
     slot->others = slot->schema = -1;
     ask_attached(self->db, "PRAGMA \"%w\".data_version", name, &slot->others);
     ask_attached(self->db, "PRAGMA \"%w\".schema_version", name, &slot->schema);
 }
 
-/* Whether an attached database that was found to fit is as it was, or was written by this connection alone. */
+/* Whether what was remembered of an attached database may be of it, and no rollback that was told of took it back. */
+static int is_of_it(connection *self, const fitting *slot, const char *name) {
+    return slot->mark && !strcmp(slot->mark, mark_of(self->db, name)) && slot->told.undone == self->watch.undone;
+}
+
+/* Whether an attached database that was found to fit is as it was, or was written by this connection alone, which left its schema.
+ * Within a transaction that changes unseen, unless npss_watch is told. */
 static int is_remembered(connection *self, const char *name, int number) {
-    const char *mark = mark_of(self->db, name);
     fitting *slot = &self->attached[number];
     sqlite3_int64 others = -2, schema = -2;
     unsigned now = data_version(self->db, name);
-    if (!slot->mark || !mark || strcmp(slot->mark, mark)) return 0;
-    if (now != slot->data_version) {
-        if (mark == name) return 0; /* another one of that name may be in its place */
-        ask_attached(self->db, "PRAGMA \"%w\".data_version", name, &others);
-        ask_attached(self->db, "PRAGMA \"%w\".schema_version", name, &schema);
-        if (others != slot->others || schema != slot->schema) return 0;
-        slot->data_version = now;
-    }
+    int is_told = sqlite3_get_autocommit(self->db) || (self->watch.takes_part && slot->told.turns == self->watch.turns);
+    if (!is_of_it(self, slot, name)) return 0;
+    if (is_told && now == slot->data_version) return 1;
+    ask_attached(self->db, "PRAGMA \"%w\".data_version", name, &others);
+    ask_attached(self->db, "PRAGMA \"%w\".schema_version", name, &schema);
+    if (others != slot->others || schema != slot->schema) return 0;
+    slot->data_version = now;
+    slot->told = self->watch;
     return 1;
 }
 
@@ -103,10 +108,13 @@ void forget_attached(connection *self) {
  * set. */
 int fits_attached(sqlite3_context *call, connection *self) {
     const char *name;
-    for (int number = 2; (name = written_from(self->db, &number)); number++) {
+    int fitted, number = 2;
+    if (!written_from(self->db, &number)) return 1;
+    if (may_be_detached(self)) forget_attached(self);
+    for (; (name = written_from(self->db, &number)); number++) {
         if (number < MOST_ATTACHED && is_remembered(self, name, number)) continue;
-        if (!fits(call, self, name)) return 0;
-        if (number < MOST_ATTACHED) remember(self, name, number);
+        if (!(fitted = fits(call, self, name))) return 0;
+        if (fitted > 0 && number < MOST_ATTACHED) remember(self, name, number);
     }
     return 1;
 }

@@ -271,6 +271,10 @@ int sqlite3_npss_init(sqlite3 *db, char **error, const sqlite3_api_routines *api
         self->users++; /* where it fails, SQLite releases it */
         code = sqlite3_create_function_v2(db, all[i].name, all[i].arguments, all[i].flags, self, all[i].does, NULL, NULL, release);
     }
+    if (code == SQLITE_OK) {
+        self->users++;
+        code = sqlite3_create_module_v2(db, "npss_watch", &watching, self, release);
+    }
     if (code != SQLITE_OK && error) *error = sqlite3_mprintf("npss: %s", sqlite3_errmsg(db));
     release(self);
     return code;

@@ -1,5 +1,6 @@
-/* What the files of the extension share: npss_sqlite.c, keys and questions; record.c, which tables are in use; attached.c,
- * attached databases; files.c, the files of a version; raise.c, how a database comes to another version. */
+/* What the files of the extension share: npss_sqlite.c, keys and questions; record.c, which tables are in use; watch.c, what a
+ * rollback takes back; attached.c, attached databases; files.c, the files of a version; raise.c, how a database comes to another
+ * version. */
 #ifndef NPSS_SQLITE_H
 #define NPSS_SQLITE_H
 
@@ -13,13 +14,26 @@ typedef struct state {
     sqlite3_int64 data;   /* PRAGMA data_version: each commit of another connection changes it */
     sqlite3_int64 schema; /* PRAGMA schema_version */
     int transaction;      /* SQLITE_TXN_NONE, _READ or _WRITE */
+    unsigned turns;       /* those of `watch` */
 } state;
+
+/* What the table npss_watch was told of a connection's transactions (watch.c). */
+typedef struct watch {
+    int takes_part;         /* in the transaction that is open */
+    int depth;              /* how many savepoints are open, those of statements too */
+    int taken;              /* one more than the depth at which the tables in use were read; 0 where no rollback takes the record back */
+    int is_undone;          /* a rollback may have taken back what was read */
+    unsigned turns, undone; /* how many transactions and savepoints began, and how many were rolled back */
+    int is_connected;       /* it is there, until SQLite closes the connection */
+    sqlite3_stmt *kept;     /* a statement that SQLite makes anew where a database is detached; NULL where none is wanted yet */
+} watch;
 
 /* An attached database that was found to fit the main one, and its numbers then, as those of `state`. */
 typedef struct fitting {
     char *mark; /* by what it is known again, of sqlite3_mprintf; NULL where none was looked at */
     unsigned data_version;
     sqlite3_int64 others, schema;
+    watch told;
 } fitting;
 
 /* How many databases of a connection are remembered, by their numbers: main, temp, and as many as SQLite attaches by itself. */
@@ -39,7 +53,8 @@ typedef struct connection {
     int is_recorded;        /* they are those of npss_record, and not of npss_open */
     int is_folded;          /* they have foldings, and make caseless keys */
     int folded_own;         /* those of npss_open have made a caseless key, which may be stored */
-    int may_be_undone;      /* a rollback may take the record back that is in use: each call looks at it */
+    int may_be_undone;      /* a rollback of which nobody tells may take the record back that is in use: each call looks at it */
+    watch watch;            /* what tells of the others */
     state seen;             /* the main database, when the record was looked at */
     fitting attached[MOST_ATTACHED];
     int writes;             /* how many writes of the record npss_raise still lets its triggers pass */
@@ -75,6 +90,12 @@ int use(sqlite3_context *call, connection *self, npss_handle *tables, int is_rec
 int use_record(sqlite3_context *call, connection *self);
 int ready(sqlite3_context *call, connection *self);
 int use_raised(sqlite3_context *call, connection *self, npss_handle *tables);
+
+/* watch.c */
+extern const sqlite3_module watching;
+int is_watched(connection *self);
+void take(connection *self);
+int may_be_detached(connection *self);
 
 /* attached.c */
 int fits_attached(sqlite3_context *call, connection *self);

@@ -60,16 +60,24 @@ static int is_as_seen(connection *self) {
     return data_version(self->db, NULL) == self->seen.pager;
 }
 
+/* Whether nothing was told that may have changed the record since it was looked at, and will be where a transaction writes. */
+static int is_told(connection *self) {
+    if (self->watch.is_undone || self->watch.turns != self->seen.turns) return 0;
+    return self->watch.takes_part || sqlite3_get_autocommit(self->db) || transaction_of(self->db, "main") < 2;
+}
+
 /* What stands for a number that isn't told, as where an authorizer lets no PRAGMA pass. */
 #define UNTOLD INT64_MIN
 
-/* The main database as it is now. */
-static state state_now(sqlite3 *db) {
-    state now = {0, UNTOLD, UNTOLD, 0};
-    ask_number(db, "PRAGMA main.data_version", &now.data);
-    ask_number(db, "PRAGMA main.schema_version", &now.schema);
-    now.pager = data_version(db, NULL);
-    now.transaction = transaction_of(db, "main");
+/* The main database as it is now. From now on it is told what the transaction takes back. */
+static state state_now(connection *self) {
+    state now = {0, UNTOLD, UNTOLD, 0, 0};
+    if (!sqlite3_get_autocommit(self->db)) is_watched(self);
+    now.turns = self->watch.turns;
+    ask_number(self->db, "PRAGMA main.data_version", &now.data);
+    ask_number(self->db, "PRAGMA main.schema_version", &now.schema);
+    now.pager = data_version(self->db, NULL);
+    now.transaction = transaction_of(self->db, "main");
     return now;
 }
 
@@ -88,6 +96,7 @@ int use(sqlite3_context *call, connection *self, npss_handle *tables, int is_rec
     self->assigned = (sqlite3_int64)npss_count(tables).length;
     self->is_recorded = is_recorded;
     self->is_folded = has_foldings(tables);
+    take(self);
     return 1;
 }
 
@@ -175,18 +184,17 @@ static void settle(connection *self, const state *now, int may_be_undone) {
 
 /* Takes tables into use that npss_raise has recorded; 0 where an error is set. */
 int use_raised(sqlite3_context *call, connection *self, npss_handle *tables) {
-    state now = state_now(self->db);
+    state now = state_now(self);
     if (!use(call, self, tables, 1)) return 0;
-    settle(self, &now, !sqlite3_get_autocommit(self->db));
+    settle(self, &now, !sqlite3_get_autocommit(self->db) && !self->watch.takes_part);
     return 1;
 }
 
-/* Whether the transaction that is open may take the record back that has just come into use. That may be over where the file
- * has changed since; and what another connection committed stays. */
+/* Whether the transaction that is open may take the record back that is in use, and nobody tells of it. That transaction may be
+ * over where the file has changed since. */
 static int may_undo(connection *self, const state *now, int is_new) {
-    if (sqlite3_get_autocommit(self->db)) return 0;
-    if (self->may_be_undone && now->pager == self->seen.pager) return 1;
-    return is_new && now->data == self->seen.data && now->transaction > 1;
+    if (sqlite3_get_autocommit(self->db) || self->watch.takes_part) return 0;
+    return (self->may_be_undone && now->pager == self->seen.pager) || (is_new && self->is_recorded && now->transaction > 1);
 }
 
 /* Whether the connection itself changes no record but by npss_raise. Where there is none, a dump that comes back may bring one. */
@@ -196,11 +204,11 @@ static int is_kept(const connection *self) {
 
 /* Looks at the record, where the database may be another one; 0 where an error is set. */
 static int look(sqlite3_context *call, connection *self) {
-    state now = state_now(self->db);
-    sqlite3_int64 assigned = self->is_recorded ? self->assigned : 0;
-    int found = 1, is_new = !self->tables.is_open || now.schema == UNTOLD || now.schema != self->seen.schema;
-    int is_sure = is_kept(self) && now.data == self->seen.data && now.transaction >= self->seen.transaction;
-    if (self->may_be_undone && now.pager != self->seen.pager) is_new = 1; /* another one may be recorded behind its rollback */
+    state now = state_now(self);
+    int found = 1, is_new = !self->tables.is_open || self->watch.is_undone || now.schema == UNTOLD || now.schema != self->seen.schema;
+    int is_sure = is_kept(self) && !self->own.is_open && now.data == self->seen.data && now.transaction >= self->seen.transaction;
+    /* Another one may be recorded behind its rollback, and what is told from now on is of what is read from now on. */
+    if (self->may_be_undone && (now.pager != self->seen.pager || self->watch.takes_part)) is_new = 1;
     if (!is_new && is_sure) {
         self->seen = now; /* the connection's own commits, none of which wrote the record */
         return 1;
@@ -211,13 +219,13 @@ static int look(sqlite3_context *call, connection *self) {
     }
     if (is_new && !(found = use_record(call, self))) return 0;
     if (found < 0 && !use_own(call, self)) return 0;
-    settle(self, &now, may_undo(self, &now, self->is_recorded && self->assigned != assigned));
+    settle(self, &now, may_undo(self, &now, is_new));
     return 1;
 }
 
 /* Whether the tables in use are those of the record; 0 where that has to be looked at, or where it fails, which `ended` tells. */
 static int is_ready(sqlite3_context *call, connection *self, int *ended) {
-    int found, is_seen = self->tables.is_open && is_as_seen(self);
+    int found, is_seen = self->tables.is_open && is_told(self) && is_as_seen(self);
     if (!is_seen || is_kept(self)) return is_seen;
     if (!self->may_be_undone && sqlite3_get_autocommit(self->db)) return 1;
     found = is_in_use(call, self); /* only a rollback can have taken it back, and only a dump brought it */

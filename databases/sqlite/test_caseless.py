@@ -182,15 +182,17 @@ class Foldings(Folded):
         room = self.folder()
         for name, caseless in (("v2", False), ("changed", True)):
             fixture_rows.put_toy(room / name, name, caseless)
-        for mode, begins in itertools.product(("DELETE", "WAL"), ("SELECT 1", "BEGIN")):
-            path = f"{self.path}.{mode}.{begins}"
+        for mode, begins, is_told in itertools.product(("DELETE", "WAL"), ("SELECT 1", "BEGIN"), (True, False)):
+            path = f"{self.path}.{mode}.{begins}.{is_told}"
             base, beside = self.with_accounts(room / "v2", path), self.connect(path)
             base.execute(f"PRAGMA journal_mode = {mode}")
+            if not is_told:
+                base.execute("CREATE TABLE npss_watch (name TEXT)")
             base.execute("BEGIN")
             base.execute("SELECT npss_raise(?)", (str(room / "changed"),))
             self.assertEqual(self.asked(base, "npss_caseless_key('A')"), "\u00e2")
             base.execute("ROLLBACK")
-            beside.execute("SELECT npss_raise(?)", (str(fixture_rows.put_toy(room / f"{mode}.{begins}", "v2")),))
+            beside.execute("SELECT npss_raise(?)", (str(fixture_rows.put_toy(room / f"{mode}.{begins}.{is_told}", "v2")),))
             base.execute(begins)
             self.assertEqual(self.asked(base, "npss_caseless_key('A')"), "a")
             base.execute("INSERT INTO account VALUES ('A')")

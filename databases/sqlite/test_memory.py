@@ -122,7 +122,9 @@ print(base.execute("SELECT npss_nfc('a')").fetchone()[0])
                       "SELECT npss_caseless_nfd('\u1e9e'), npss_try_caseless_key('\U000e0080'), npss_caseless_match('A', '\u1ead', 'nfkd');",
                       f"ATTACH '{self.path}' AS other;", "CREATE TABLE other.npss_record (data, exclusions);", "INSERT INTO other.npss_record VALUES (x'00', x'00');",
                       "CREATE TABLE other.account (key TEXT);", "INSERT INTO other.account VALUES (npss_nfc('\u1ead'));", "DELETE FROM other.npss_record;",
-                      "INSERT INTO other.account VALUES (npss_nfc('\u1ead'));"]
+                      "INSERT INTO other.account VALUES (npss_nfc('\u1ead'));", "DETACH other;",
+                      "BEGIN;", f"SELECT npss_raise('{CASED_NEW}');", "SAVEPOINT here;", "DROP TABLE npss_record;", "SELECT npss_nfc('\u1ead');", "ROLLBACK TO here;",
+                      "SELECT npss_nfc('\u1ead');", "ROLLBACK;", "SELECT npss_nfc('\u1ead');", "BEGIN;", "CREATE TABLE kept (key);", "SELECT npss_nfc('\u1ead');"]
         words = ["valgrind", "-q", "--leak-check=full", "--show-leak-kinds=definite", "--errors-for-leak-kinds=definite", "--error-exitcode=9",
                  "sqlite3", "-cmd", f".load {EXTENSION}", ":memory:"]
         ran = subprocess.run(words, input="\n".join(statements), stdout=subprocess.PIPE, stderr=subprocess.PIPE, text=True, check=False)
@@ -130,3 +132,4 @@ print(base.execute("SELECT npss_nfc('a')").fetchone()[0])
         self.assertNotIn("==", ran.stderr)
         self.assertEqual(ran.stdout.split()[1:len(lengths) + 1], [str(length - 1) for length in lengths])
         self.assertIn("records another version", ran.stderr)
+        self.assertNotIn("unable to close", ran.stderr)

@@ -162,21 +162,21 @@ class Raises(Case):
 
     def test_the_record_is_that_of_the_main_database(self):
         base, beside = self.with_names(), self.connect()
-        temporary = "CREATE TEMP TABLE npss_record (one INTEGER PRIMARY KEY, assigned INTEGER, data BLOB, exclusions BLOB)"
+        temporary = "CREATE TEMP TABLE npss_record (one INTEGER PRIMARY KEY, assigned INTEGER, data BLOB, exclusions BLOB, folding BLOB)"
         base.execute(temporary)
-        base.execute("INSERT INTO temp.npss_record VALUES (1, ?, x'', x'')", (OLD_COUNT,))
+        base.execute("INSERT INTO temp.npss_record VALUES (1, ?, x'', x'', NULL)", (OLD_COUNT,))
         self.assertEqual(self.asked(base, "npss_nfc(?)", MARKED), "\u1ead")
         beside.execute("SELECT npss_raise(?)", (NEW,))
         base.execute("INSERT INTO account VALUES (?)", (YOUNGEST,))
         fresh = self.connect()
         fresh.execute(temporary)
-        fresh.execute("INSERT INTO temp.npss_record SELECT 1, ?, readable.data, readable.exclusions FROM main.npss_record AS readable", (OLD_COUNT,))
+        fresh.execute("INSERT INTO temp.npss_record SELECT 1, ?, readable.data, readable.exclusions, NULL FROM main.npss_record AS readable", (OLD_COUNT,))
         fresh.execute("UPDATE temp.npss_record SET data = x'00'")
         self.assertEqual((self.asked(fresh, "npss_nfc(?)", MARKED), self.asked(fresh, "npss_version()")), ("\u1ead", NEW_COUNT))
         # Where the main one has none, none of another database counts.
         bare = self.connect(self.path + "2")
         bare.execute(temporary)
-        bare.execute("INSERT INTO temp.npss_record VALUES (1, ?, x'', x'')", (OLD_COUNT,))
+        bare.execute("INSERT INTO temp.npss_record VALUES (1, ?, x'', x'', NULL)", (OLD_COUNT,))
         bare.execute("ATTACH ? AS other", (self.path,))
         self.refused("records no version", bare, "SELECT npss_nfc('a')")
         self.assertEqual(self.asked(bare, "npss_open(?)", OLD), OLD_COUNT)
@@ -362,7 +362,7 @@ class Waits(Case):
     def test_a_raise_gives_up(self):
         base = self.with_names()
         base.execute("PRAGMA busy_timeout = 0")
-        self.meanwhile(["BEGIN IMMEDIATE"])
+        self.meanwhile(["BEGIN IMMEDIATE"], 40)  # a raise that never gives up ends behind these
         self.refused("npss: database is locked", base, "SELECT npss_raise(?)", NEW)
         self.assertFalse(base.in_transaction)
         self.assertEqual(self.asked(base, "npss_version()"), OLD_COUNT)

@@ -68,16 +68,20 @@ class Replaced(Case):
     def test_by_another_raise_behind_one_that_was_rolled_back(self):
         # Both versions extend the first one, and have as many code points.
         letter = "1E030;MODIFIER LETTER CYRILLIC SMALL A;Lm;0;L;<super> 043"
-        base, beside = self.with_names(OLD), self.connect()
-        base.execute("CREATE UNIQUE INDEX account_nfkc ON account (npss_nfkc(name))")
-        base.execute("BEGIN")
-        base.execute("SELECT npss_raise(?)", (self.sibling(f"{letter}0", f"{letter}1"),))
-        self.assertEqual(self.asked(base, "npss_nfkc('\U0001e030')"), "\u0431")
-        base.execute("ROLLBACK")
-        beside.execute("SELECT npss_raise(?)", (NEW,))
-        base.execute("INSERT INTO account VALUES ('\U0001e030')")
-        self.refused("UNIQUE constraint", beside, "INSERT INTO account VALUES ('\u0430')")
-        self.whole(beside)
+        for is_told in (True, False):
+            self.path += f".{is_told}"
+            base, beside = self.with_names(OLD), self.connect()
+            base.execute("CREATE UNIQUE INDEX account_nfkc ON account (npss_nfkc(name))")
+            if not is_told:
+                base.execute("CREATE TABLE npss_watch (name TEXT)")
+            base.execute("BEGIN")
+            base.execute("SELECT npss_raise(?)", (self.sibling(f"{letter}0", f"{letter}1"),))
+            self.assertEqual(self.asked(base, "npss_nfkc('\U0001e030')"), "\u0431")
+            base.execute("ROLLBACK")
+            beside.execute("SELECT npss_raise(?)", (NEW,))
+            base.execute("INSERT INTO account VALUES ('\U0001e030')")
+            self.refused("UNIQUE constraint", beside, "INSERT INTO account VALUES ('\u0430')")
+            self.whole(beside)
 
     def test_by_the_shells_restore(self):
         base = self.with_names(NEW)
@@ -180,6 +184,19 @@ class Looks(Case):
         base.execute("COMMIT")
         self.assertLessEqual(len(self.looks(base, 500)), 8, "behind a raise within a transaction")
         self.assertLessEqual(len(self.looks(self.connect(), 500)), 8, "of a fresh connection")
+
+    def test_a_reader_behind_a_raise_looks_once_where_nothing_is_told(self):
+        base, told = self.with_names(OLD), []
+        base.execute("CREATE TABLE npss_watch (name TEXT)")
+        base.executemany("INSERT INTO account VALUES (?)", ((f"{MARKED}{at}",) for at in range(50)))
+        base.execute("BEGIN")
+        base.execute("SELECT npss_raise(?)", (NEW,))
+        base.execute("COMMIT")
+        base.execute("BEGIN")
+        base.set_trace_callback(told.append)
+        self.assertEqual(len(base.execute("SELECT npss_nfc(name) FROM account").fetchall()), 50)
+        base.set_trace_callback(None)
+        self.assertLessEqual(len(told), 10, told)
 
     def test_a_statement_without_tables_keeps_no_transaction_open(self):
         # What it reads there it would hold to its end: another's commit would be in the way of its own.

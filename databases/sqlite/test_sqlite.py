@@ -15,9 +15,10 @@ from test_memory import Memory
 from test_moving import Moving
 from test_raises import Files, Raises, Waits
 from test_replaced import Attached, Looks, Replaced
+from test_undone import Beneath, Undone
 
-__all__ = ["Attached", "Beside", "Caseless", "Dumps", "Files", "Foldings", "Functions", "Indexes", "Looks", "Memory", "Moving", "Opened", "Raises",
-           "Replaced", "Waits"]
+__all__ = ["Attached", "Beneath", "Beside", "Caseless", "Dumps", "Files", "Foldings", "Functions", "Indexes", "Looks", "Memory", "Moving", "Opened", "Raises",
+           "Replaced", "Undone", "Waits"]
 
 if __name__ == "__main__":
     result = unittest.main(argv=sys.argv[:1] + sys.argv[3:], exit=False, verbosity=0).result

@@ -1,0 +1,165 @@
+/* What a rollback takes back. A table without rows, npss_watch, takes part in the transactions that write the main database and
+ * make keys. So SQLite tells it of their end, of each rollback to a savepoint, and of each statement that may drop a table. */
+#include "npss_sqlite.h"
+
+SQLITE_EXTENSION_INIT3
+
+typedef struct table {
+    sqlite3_vtab base; /* has to come first */
+    watch *told;
+} table;
+
+static watch *told_of(sqlite3_vtab *at) {
+    return ((table *)at)->told;
+}
+
+/* ---- a table without rows */
+
+static int connects(sqlite3 *db, void *held, int count, const char *const *given, sqlite3_vtab **made, char **error) {
+    table *self;
+    int code = sqlite3_declare_vtab(db, "CREATE TABLE npss_watch (told)");
+    (void)count, (void)given, (void)error;
+    if (code != SQLITE_OK) return code;
+    if (!(self = sqlite3_malloc(sizeof *self))) return SQLITE_NOMEM;
+    *self = (table){{0}, &((connection *)held)->watch};
+    self->told->is_connected = 1;
+    *made = &self->base;
+    return sqlite3_vtab_config(db, SQLITE_VTAB_DIRECTONLY);
+}
+
+static int disconnects(sqlite3_vtab *at) {
+    watch *told = told_of(at);
+    sqlite3_finalize(told->kept);
+    told->kept = NULL;
+    told->is_connected = 0;
+    sqlite3_free(at);
+    return SQLITE_OK;
+}
+
+static int plans(sqlite3_vtab *at, sqlite3_index_info *plan) {
+    (void)at;
+    plan->estimatedCost = 1;
+    return SQLITE_OK;
+}
+
+static int opens(sqlite3_vtab *at, sqlite3_vtab_cursor **made) {
+    (void)at;
+    *made = sqlite3_malloc(sizeof **made);
+    return *made ? SQLITE_OK : SQLITE_NOMEM;
+}
+
+static int closes(sqlite3_vtab_cursor *cursor) {
+    sqlite3_free(cursor);
+    return SQLITE_OK;
+}
+
+static int filters(sqlite3_vtab_cursor *cursor, int number, const char *text, int count, sqlite3_value **given) {
+    (void)cursor, (void)number, (void)text, (void)count, (void)given;
+    return SQLITE_OK;
+}
+
+static int goes_on(sqlite3_vtab_cursor *cursor) {
+    (void)cursor;
+    return SQLITE_OK;
+}
+
+static int is_at_end(sqlite3_vtab_cursor *cursor) {
+    (void)cursor;
+    return 1;
+}
+
+static int tells_column(sqlite3_vtab_cursor *cursor, sqlite3_context *call, int column) {
+    (void)cursor, (void)call, (void)column;
+    return SQLITE_OK;
+}
+
+static int tells_row(sqlite3_vtab_cursor *cursor, sqlite3_int64 *row) {
+    (void)cursor, (void)row;
+    return SQLITE_OK;
+}
+
+static int updates(sqlite3_vtab *at, int count, sqlite3_value **given, sqlite3_int64 *row) {
+    (void)at, (void)count, (void)given, (void)row;
+    return SQLITE_READONLY;
+}
+
+/* ---- what it is told */
+
+static int begins(sqlite3_vtab *at) {
+    watch *told = told_of(at);
+    told->takes_part = 1;
+    told->depth = 0;
+    told->turns++;
+    return SQLITE_OK;
+}
+
+static int commits(sqlite3_vtab *at) {
+    told_of(at)->takes_part = told_of(at)->taken = 0;
+    return SQLITE_OK;
+}
+
+static int rolls_back(sqlite3_vtab *at) {
+    watch *told = told_of(at);
+    if (told->taken) told->is_undone = 1;
+    told->undone++;
+    return commits(at);
+}
+
+/* A savepoint begins, whose number is how many there were. */
+static int saves(sqlite3_vtab *at, int number) {
+    told_of(at)->depth = number + 1;
+    told_of(at)->turns++;
+    return SQLITE_OK;
+}
+
+/* A savepoint ends: what was done within it belongs to the one around. */
+static int releases(sqlite3_vtab *at, int number) {
+    watch *told = told_of(at);
+    told->depth = number;
+    if (told->taken > number + 1) told->taken = number + 1;
+    return SQLITE_OK;
+}
+
+static int rolls_back_to(sqlite3_vtab *at, int number) {
+    watch *told = told_of(at);
+    if (told->taken > number + 1) told->is_undone = 1;
+    told->undone++;
+    told->depth = number + 1;
+    return SQLITE_OK;
+}
+
+/* There is no xCreate: it is there without being made. */
+const sqlite3_module watching = {
+    .iVersion = 2, .xConnect = connects, .xDisconnect = disconnects, .xBestIndex = plans, .xOpen = opens, .xClose = closes,
+    .xFilter = filters, .xNext = goes_on, .xEof = is_at_end, .xColumn = tells_column, .xRowid = tells_row, .xUpdate = updates,
+    .xBegin = begins, .xCommit = commits, .xRollback = rolls_back, .xSavepoint = saves, .xRelease = releases, .xRollbackTo = rolls_back_to,
+};
+
+/* ---- who asks for it */
+
+/* Whether the main database is written in the present transaction, and the table takes part in that. It does from the first time
+ * that this is asked, unless somebody's table has its name, or an authorizer keeps it away. */
+int is_watched(connection *self) {
+    sqlite3_int64 none;
+    if (!self->watch.takes_part && transaction_of(self->db, "main") > 1) ask_number(self->db, "DELETE FROM main.npss_watch WHERE 0", &none);
+    return self->watch.takes_part;
+}
+
+/* Remembers that the tables in use were read at this place of the transaction. */
+void take(connection *self) {
+    self->watch.is_undone = 0;
+    self->watch.taken = is_watched(self) ? self->watch.depth + 1 : 0;
+}
+
+/* Whether a database may have been detached, or a change of a schema rolled back, since this was asked before: then SQLite makes each
+ * statement anew. The statement is kept while the table is connected, since a connection with statements isn't closed. */
+int may_be_detached(connection *self) {
+    sqlite3_int64 none;
+    watch *told = &self->watch;
+    if (!told->is_connected) ask_number(self->db, "SELECT 1 FROM main.npss_watch", &none);
+    if (told->is_connected && !told->kept && sqlite3_prepare_v2(self->db, "SELECT 1", -1, &told->kept, NULL) == SQLITE_OK) return 1;
+    if (!told->kept) return 1;
+    sqlite3_step(told->kept);
+    sqlite3_reset(told->kept);
+    return sqlite3_stmt_status(told->kept, SQLITE_STMTSTATUS_REPREPARE, 1) > 0;
+}
