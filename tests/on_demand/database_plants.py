@@ -246,8 +246,9 @@ PLANTS = {
     "SQLite: a transaction that writes is not told of": (LITE_RECORD, "return self->watch.takes_part || sqlite3_get_autocommit(self->db) ||", "return 1 ||", "Undone"),
     "SQLite: each key of a transaction looks at the record": (LITE_RECORD, "    if (!sqlite3_get_autocommit(self->db)) is_watched(self);\n", "", "Looks"),
     "SQLite: a kept statement is left to the connection": (LITE_WATCH, "    sqlite3_finalize(told->kept);\n    told->kept = NULL;\n", "", "Memory.test_nothing_is_touched_out_of_bounds"),
+    "SQLite: the table that is told outlives its connection": (LITE_WATCH, "    self->owner->users++;\n", "", "Memory.test_nothing_is_touched_out_of_bounds"),
     "SQLite: somebody's table is emptied": (LITE_WATCH, "DELETE FROM main.npss_watch WHERE 0", "DELETE FROM main.npss_watch", "Undone"),
-    "SQLite: a schema may name the table that is told": (LITE_WATCH, "return sqlite3_vtab_config(db, SQLITE_VTAB_DIRECTONLY);", "return SQLITE_OK;", "Undone"),
+    "SQLite: a schema may name the table that is told": (LITE_WATCH, "sqlite3_vtab_config(db, SQLITE_VTAB_DIRECTONLY);", "SQLITE_OK;", "Undone"),
     # SQLite: files
     "SQLite: a pipe is waited for": (COMMON_HEAD, "O_RDONLY | O_NONBLOCK", "O_RDONLY", "Files"),
     "SQLite: a device is read": (COMMON, "|| !S_ISREG(about.st_mode)", "", "Files"),
