@@ -43,7 +43,7 @@ PLANTS = {
     "a piece ends within a character": (QUESTIONS, "&& (input.at[length] & 0xC0) == 0x80", "&& false"),
     "a stream is not closed at an error": (KEYS, "\tMemoryContextRegisterResetCallback(CurrentMemoryContext, &made->end);\n", "", "Memory"),
     "a long key is not interrupted": (KEYS, "\t\tCHECK_FOR_INTERRUPTS();\n\t\tanswer = npss_stream_feed", "\t\tanswer = npss_stream_feed", "Bounds"),
-    "the search of a long text is not interrupted": (QUESTIONS, "\t\tCHECK_FOR_INTERRUPTS();\n\t\tanswer = npss_first", "\t\tanswer = npss_first", "Bounds"),
+    "the search of a long text is not interrupted": (QUESTIONS, "\t\tCHECK_FOR_INTERRUPTS();\n\t\tanswer = npss_first", "\t\tanswer = npss_first", "Bounds.test_a_search_ends_within_its_text"),
     "npss_why is not interrupted": (WHY, "\t\tCHECK_FOR_INTERRUPTS();\n", "", "Bounds"),
     "a long normal form that fails is not told": (KEYS, "\tif (made == NULL)\n\t\trefuse(answer, input, version);\n\treturn made;\n}\n", "\treturn made;\n}\n", "Attacks"),
     "too long a text has another SQLSTATE": (KEYS, "ERRCODE_PROGRAM_LIMIT_EXCEEDED", "ERRCODE_OUT_OF_MEMORY", "Bounds"),
