@@ -301,6 +301,23 @@ class Beneath(Folded):
             self.refused("records another version", base, self.WRITE)
             base.execute("ROLLBACK")
 
+    def test_whose_rows_alone_are_taken_back(self):
+        base = self.attached()
+        base.execute(self.RECORD)
+        for ends in ("ROLLBACK TO here", "ROLLBACK"):
+            for version in (NEW, OLD):
+                if not base.in_transaction:
+                    base.execute("BEGIN")
+                base.execute("INSERT INTO main.account VALUES (?)", (version,))
+                base.execute("SAVEPOINT here")
+                base.execute("INSERT INTO other.npss_record VALUES (1, 0, ?, ?)", self.files(version))
+                if version == NEW:
+                    base.execute(self.WRITE)
+                    base.execute(ends)
+                else:
+                    self.refused("records another version", base, self.WRITE)
+            base.execute("ROLLBACK")
+
     def test_that_are_of_another_file(self):
         # The second is attached under the first one's name and path, with all its numbers.
         for begins, beside in itertools.product(("SELECT 1", "BEGIN"), ("raises", "moves")):
