@@ -4,6 +4,7 @@ import os
 import re
 import shutil
 import subprocess
+import time
 import unittest
 from pathlib import Path
 
@@ -78,8 +79,20 @@ class Bounds(Case):
         self.server.sql(f"CREATE TABLE long AS SELECT repeat('{MARKED}', 1000000) AS body", base)
         session = self.session(base)
         self.ends_early(session, "SELECT count(*) FROM long, npss_why(body)")
-        made = f"FROM (SELECT repeat('{MARKED}', 36000000) AS body OFFSET 0) AS made"
-        self.ends_early(session, f"SELECT count(npss_first_unassigned(body)) {made}", f"SELECT count(body) {made}")
+
+    def test_a_search_ends_within_its_text(self):
+        # A search is short beside what makes its text, so there are many in one expression, and another session says when they end.
+        base = self.base("searched", "15.0")
+        self.server.sql("CREATE SEQUENCE begun; CREATE SEQUENCE ended", base)
+        session, beside = self.session(base), self.session(base)
+        searches = " AND ".join(["npss_first_unassigned(body) IS NULL"] * 20)
+        session.send(f"SELECT nextval('begun') > 0 AND {searches} AND nextval('ended') > 0 FROM (SELECT repeat('{MARKED}', 36000000) AS body OFFSET 0) AS made")
+        until = time.monotonic() + 120
+        while beside.ask("SELECT is_called FROM begun") != "t" and time.monotonic() < until:
+            time.sleep(0.01)
+        beside.ask(f"SELECT pg_cancel_backend({session.pid})")
+        self.assertIn("57014", session.receive())
+        self.assertEqual(beside.ask("SELECT a.is_called, b.is_called FROM begun AS a, ended AS b"), "t|f")
 
     def test_what_is_made_is_too_long(self):
         # Each sign is made eleven times as long.

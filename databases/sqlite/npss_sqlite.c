@@ -17,7 +17,8 @@ connection *connection_of(sqlite3_context *call) {
     return sqlite3_user_data(call);
 }
 
-static void release(void *held) {
+/* Lets a user of a connection's tables go; they are closed with the last one. */
+void release(void *held) {
     connection *self = held;
     if (--self->users > 0) return;
     npss_close(&self->tables);

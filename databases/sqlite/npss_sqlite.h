@@ -45,7 +45,7 @@ typedef struct fitting {
 /* The tables of one connection. */
 typedef struct connection {
     sqlite3 *db;
-    int users;              /* the functions that point here */
+    int users;              /* the functions that point here, and the table npss_watch */
     npss_handle tables;     /* in use; closed until they are wanted */
     npss_handle own;        /* those of npss_open, until the database has a record that stays */
     uintptr_t number;       /* of the tables in use, another one each time that others come */
@@ -70,6 +70,7 @@ typedef void function(sqlite3_context *call, int count, sqlite3_value **given);
 
 /* npss_sqlite.c */
 connection *connection_of(sqlite3_context *call);
+void release(void *held);
 int fail(sqlite3_context *call, char *text);
 int fail_memory(sqlite3_context *call);
 int fail_by_database(sqlite3_context *call);

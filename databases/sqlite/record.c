@@ -83,8 +83,8 @@ static state state_now(connection *self) {
 
 /* ---- the tables in use */
 
-/* Takes tables into use in place of those that there are; 0 where an error is set. Then none are in use, and what is known of
- * those that were stays: whoever looks again has to see that others come. */
+/* Takes tables into use in place of those that there are, as they are read at this place of the transaction; 0 where an error is
+ * set. Then none are in use. */
 int use(sqlite3_context *call, connection *self, npss_handle *tables, int is_recorded) {
     npss_answer a = npss_share(tables, &self->tables);
     self->number++;

@@ -124,7 +124,7 @@ print(base.execute("SELECT npss_nfc('a')").fetchone()[0])
                       "CREATE TABLE other.account (key TEXT);", "INSERT INTO other.account VALUES (npss_nfc('\u1ead'));", "DELETE FROM other.npss_record;",
                       "INSERT INTO other.account VALUES (npss_nfc('\u1ead'));", "DETACH other;",
                       "BEGIN;", f"SELECT npss_raise('{CASED_NEW}');", "SAVEPOINT here;", "DROP TABLE npss_record;", "SELECT npss_nfc('\u1ead');", "ROLLBACK TO here;",
-                      "SELECT npss_nfc('\u1ead');", "ROLLBACK;", "SELECT npss_nfc('\u1ead');", "BEGIN;", "CREATE TABLE kept (key);", "SELECT npss_nfc('\u1ead');"]
+                      "SELECT npss_nfc('\u1ead');", f".load {EXTENSION}", "SELECT npss_nfc('\u1ead');", "ROLLBACK;", "SELECT npss_nfc('\u1ead');", "BEGIN;", "CREATE TABLE kept (key);", "SELECT npss_nfc('\u1ead');"]
         words = ["valgrind", "-q", "--leak-check=full", "--show-leak-kinds=definite", "--errors-for-leak-kinds=definite", "--error-exitcode=9",
                  "sqlite3", "-cmd", f".load {EXTENSION}", ":memory:"]
         ran = subprocess.run(words, input="\n".join(statements), stdout=subprocess.PIPE, stderr=subprocess.PIPE, text=True, check=False)

@@ -185,6 +185,15 @@ class Looks(Case):
         self.assertLessEqual(len(self.looks(base, 500)), 8, "behind a raise within a transaction")
         self.assertLessEqual(len(self.looks(self.connect(), 500)), 8, "of a fresh connection")
 
+    def test_a_load_in_the_transaction_of_a_raise_looks_once(self):
+        base, told = self.with_names(OLD), []
+        base.execute("BEGIN")
+        base.execute("SELECT npss_raise(?)", (NEW,))
+        base.set_trace_callback(told.append)
+        base.executemany("INSERT INTO account VALUES (?)", ((f"{MARKED}{at}",) for at in range(50)))
+        base.set_trace_callback(None)
+        self.assertLessEqual(len(told), 50 + 8, told)
+
     def test_a_reader_behind_a_raise_looks_once_where_nothing_is_told(self):
         base, told = self.with_names(OLD), []
         base.execute("CREATE TABLE npss_watch (name TEXT)")

@@ -113,20 +113,33 @@ class Undone(Folded):
                 self.has(base, second)
 
     def test_a_dump_in_place_of_a_database(self):
-        for within, commits, asks in itertools.product((False, True), (False, True), (False, True)):
+        for within, commits, asks in itertools.product((False, True), (False, True), ("nothing", "a key", "a key that is stored")):
             with self.subTest(within=within, commits=commits, asks=asks):
                 self.path = f"{self.room}/{within}{commits}{asks}"
                 base = self.connect()
                 self.read(base, self.dump("v2", f"{self.path}.dumped"))
                 if within:
                     base.execute("BEGIN")
-                if asks:
+                if asks == "a key":
                     self.assertEqual(self.asked(base, "npss_caseless_key('A')"), "a")
+                elif asks != "nothing":
+                    base.execute("INSERT INTO account VALUES ('\uac00')")
                 self.read(base, ["DROP TABLE account", "DROP TABLE npss_record", *self.dump("changed", f"{self.path}.other")])
                 self.assertEqual(self.asked(base, "npss_caseless_key('A')"), "\u00e2")
                 if within:
                     base.execute("COMMIT" if commits else "ROLLBACK")
+                base.execute("DELETE FROM account WHERE name = '\uac00'")
                 self.has(base, "changed" if commits or not within else "v2")
+
+    def test_a_row_that_comes_alone_behind_opened_tables(self):
+        base = self.connect()
+        base.execute(OLDER_RECORD.replace("exclusions BLOB", "exclusions BLOB, folding BLOB"))
+        base.execute("CREATE TABLE account (name TEXT, key TEXT AS (npss_caseless_nfc(name)) STORED)")
+        base.execute("SELECT npss_open(?)", (str(self.room / "changed"),))
+        base.execute("BEGIN")
+        base.execute("INSERT INTO account (name) VALUES ('A')")
+        self.read(base, [text for text in self.dump("v2") if 'INTO "npss_record"' in text])
+        self.refused("neither this database's record nor the files of npss_open extend the other", base, "INSERT INTO account (name) VALUES ('a')")
 
     def test_a_savepoint_within_a_load_is_no_rollback_of_the_record(self):
         # The record was read before the savepoint, so what is rolled back to that leaves it, and no statement reads it anew.
@@ -183,6 +196,8 @@ class Undone(Folded):
             self.assertEqual(self.asked(base, "npss_caseless_key('A')"), "a")
             base.execute("ROLLBACK")
             self.refused("records no version", base, "SELECT npss_caseless_key('A')")
+            self.read(base, ["BEGIN", *(text for text in self.dump("v2", f"{self.path}.{shadows}.again") if 'INTO "npss_record"' in text),
+                             "INSERT INTO account VALUES ('A')", "COMMIT"])
             if shadows:
                 self.assertEqual(base.execute("SELECT name FROM npss_watch").fetchall(), [("kept",)])
 
@@ -284,6 +299,23 @@ class Beneath(Folded):
                 base.execute("INSERT INTO main.account VALUES ('a')")
             self.put(base, OLD)
             self.refused("records another version", base, self.WRITE)
+            base.execute("ROLLBACK")
+
+    def test_whose_rows_alone_are_taken_back(self):
+        base = self.attached()
+        base.execute(self.RECORD)
+        for ends in ("ROLLBACK TO here", "ROLLBACK"):
+            for version in (NEW, OLD):
+                if not base.in_transaction:
+                    base.execute("BEGIN")
+                base.execute("INSERT INTO main.account VALUES (?)", (version,))
+                base.execute("SAVEPOINT here")
+                base.execute("INSERT INTO other.npss_record VALUES (1, 0, ?, ?)", self.files(version))
+                if version == NEW:
+                    base.execute(self.WRITE)
+                    base.execute(ends)
+                else:
+                    self.refused("records another version", base, self.WRITE)
             base.execute("ROLLBACK")
 
     def test_that_are_of_another_file(self):

@@ -6,25 +6,27 @@ SQLITE_EXTENSION_INIT3
 
 typedef struct table {
     sqlite3_vtab base; /* has to come first */
-    watch *told;
+    connection *owner; /* whose user it is: SQLite may be done with the module before it */
 } table;
 
 static watch *told_of(sqlite3_vtab *at) {
-    return ((table *)at)->told;
+    return &((table *)at)->owner->watch;
 }
 
 /* ---- a table without rows */
 
 static int connects(sqlite3 *db, void *held, int count, const char *const *given, sqlite3_vtab **made, char **error) {
     table *self;
-    int code = sqlite3_declare_vtab(db, "CREATE TABLE npss_watch (told)");
+    int code = sqlite3_vtab_config(db, SQLITE_VTAB_DIRECTONLY);
     (void)count, (void)given, (void)error;
+    if (code == SQLITE_OK) code = sqlite3_declare_vtab(db, "CREATE TABLE npss_watch (told)");
     if (code != SQLITE_OK) return code;
     if (!(self = sqlite3_malloc(sizeof *self))) return SQLITE_NOMEM;
-    *self = (table){{0}, &((connection *)held)->watch};
-    self->told->is_connected = 1;
+    *self = (table){{0}, held};
+    self->owner->users++;
+    self->owner->watch.is_connected = 1;
     *made = &self->base;
-    return sqlite3_vtab_config(db, SQLITE_VTAB_DIRECTONLY);
+    return SQLITE_OK;
 }
 
 static int disconnects(sqlite3_vtab *at) {
@@ -32,6 +34,7 @@ static int disconnects(sqlite3_vtab *at) {
     sqlite3_finalize(told->kept);
     told->kept = NULL;
     told->is_connected = 0;
+    release(((table *)at)->owner);
     sqlite3_free(at);
     return SQLITE_OK;
 }
