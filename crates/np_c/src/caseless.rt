@@ -11,6 +11,7 @@ ghost use Rattle.np_code_points.specs.declared.forms.Form.{Form};
 ghost use Rattle.np_versions.specs.Versions.{VersionData};
 
 use crate::answers::{Answer, CLOSED, DONE, MEMORY, NO_FORM, UNASSIGNED};
+use crate::ascii::are_ascii;
 use crate::comparing::answer_of_truth;
 use crate::content::Content;
 use crate::room::put;
@@ -18,7 +19,7 @@ use crate::texts::{form_in, text_in};
 use np_caseless::{FoldedTable, caseless_match, fold_into};
 use np_code_points::Form;
 use np_forms::NpssFault;
-use np_versions::{NormTable, ascii_front};
+use np_versions::NormTable;
 use std::alloc::Global;
 use std::borrow::CowStr;
 
@@ -67,7 +68,7 @@ fn put_ascii<T: NormTable + Drop>(
 {
     folded.meets_conditions();
     let folding = folded.ascii()?;
-    if bytes.len() > room.len() || ascii_front(bytes) < bytes.len() {
+    if bytes.len() > room.len() || !are_ascii(bytes) {
         return None;
     }
     fold_into(room, folding, bytes);
