@@ -1,19 +1,25 @@
 //! Caseless keys of bytes, and caseless matches.
-ghost use Rattle.std.specs.Prelude.{◌≡◌, IfOk, IfErr, IfNone, IfSome};
+ghost use Rattle.std.specs.Prelude.{◌≡◌, None, Some, IfOk, IfErr, IfNone, IfSome};
 ghost use Rattle.std.specs.Cow.{cow_str_bytes};
 ghost use Rattle.np_c.specs.Answers.{IsMade};
 ghost use Rattle.np_c.specs.Caseless.{IsCaselessKeyAnswer, IsCaselessKeyOf, IsMatchAnswer};
+ghost use Rattle.np_c.specs.Foldings.{folded_in};
+ghost use Rattle.np_c.specs.Statuses.{alone};
 ghost use Rattle.np_c.specs.Texts.{IsNoKey};
+ghost use Rattle.np_c.specs.Versions.{version_in};
 ghost use Rattle.np_code_points.specs.declared.forms.Form.{Form};
+ghost use Rattle.np_versions.specs.Versions.{VersionData};
 
-use crate::answers::{Answer, DONE, MEMORY, NO_FORM, UNASSIGNED};
+use crate::answers::{Answer, CLOSED, DONE, MEMORY, NO_FORM, UNASSIGNED};
+use crate::ascii::are_ascii;
 use crate::comparing::answer_of_truth;
+use crate::content::Content;
 use crate::room::put;
 use crate::texts::{form_in, text_in};
 use np_caseless::{FoldedTable, caseless_match, fold_into};
 use np_code_points::Form;
 use np_forms::NpssFault;
-use np_versions::{NormTable, ascii_front};
+use np_versions::NormTable;
 use std::alloc::Global;
 use std::borrow::CowStr;
 
@@ -62,7 +68,7 @@ fn put_ascii<T: NormTable + Drop>(
 {
     folded.meets_conditions();
     let folding = folded.ascii()?;
-    if bytes.len() > room.len() || ascii_front(bytes) < bytes.len() {
+    if bytes.len() > room.len() || !are_ascii(bytes) {
         return None;
     }
     fold_into(room, folding, bytes);
@@ -90,6 +96,28 @@ pub fn write_caseless_key<T: NormTable + Drop>(
     }
     match key_of(alloc, folded, form, bytes) {
         Ok(key) => put(key.as_str().as_bytes(), room),
+        Err(answer) => answer,
+    }
+}
+
+/// Writes the caseless key of bytes into the room by the table that is held with its foldings, which stays where it stands.
+pub fn caseless_key_by(
+    alloc: Global,
+    content: &Content,
+    letter: u8,
+    bytes: &[u8],
+    room: &mut [u8],
+) -> Answer
+    ensures key { IfSome (folded_in (Some content.now)) (λ v. IsCaselessKeyAnswer v letter bytes.now room.old room.new result) }
+    ensures unfolded { (v : VersionData) → version_in (Some content.now) ≡ Some v → folded_in (Some content.now) ≡ None
+        → (result ≡ alone 26) × (room.new ≡ room.old) }
+    ensures closed { version_in (Some content.now) ≡ None → (result ≡ alone 5) × (room.new ≡ room.old) }
+{
+    let Some(shared) = content.table() else {
+        return Answer::of(CLOSED);
+    };
+    match shared.with_foldings() {
+        Ok(folded) => write_caseless_key(alloc, folded, letter, bytes, room),
         Err(answer) => answer,
     }
 }

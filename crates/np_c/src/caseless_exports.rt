@@ -11,7 +11,7 @@ ghost use Rattle.np_c.specs.Statuses.{alone};
 ghost use Rattle.np_c.specs.Versions.{content_of, version_of};
 
 use crate::answers::{Answer, CLOSED, DONE};
-use crate::caseless::{tell_match, write_caseless_key};
+use crate::caseless::{caseless_key_by, tell_match};
 use crate::folding_codes::write_folding;
 use crate::folding_extension::tell_folded_extension;
 use crate::folding_opening::shared_folded_of;
@@ -56,14 +56,11 @@ pub extern "C" fn npss_caseless_key(
     ensures unfolded { LacksFolding handle.old → (result ≡ alone 26) × (room.new ≡ room.old) }
     ensures closed { version_of handle.old ≡ None → (result ≡ alone 5) × (room.new ≡ room.old) }
 {
-    match handle.take_table(alloc) {
+    match handle.take(alloc) {
         None => Answer::of(CLOSED),
-        Some((shared, content)) => {
-            let answer = match shared.with_foldings() {
-                Ok(folded) => write_caseless_key(alloc, folded, form, text, room),
-                Err(answer) => answer,
-            };
-            handle.put_table(content, shared);
+        Some(content) => {
+            let answer = caseless_key_by(alloc, &content, form, text, room);
+            handle.put(content);
             answer
         }
     }

@@ -7,7 +7,7 @@ ghost use Rattle.np_c.specs.Versions.{content_of, version_of};
 use crate::answers::{Answer, CLOSED};
 use crate::handles::Handle;
 use crate::properties::{
-    tell_composite, tell_first_unassigned, tell_property, write_decomposition,
+    tell_composite, tell_first_unassigned_by, tell_property_by, write_decomposition,
 };
 use np_versions::NormTable;
 use std::alloc::Global;
@@ -20,11 +20,11 @@ pub extern "C" fn npss_property(alloc: Global, handle: &mut Handle, code: u32) -
     ensures told { IfSome (version_of handle.old) (λ v. IsPropertyAnswer v code result) }
     ensures closed { version_of handle.old ≡ None → result ≡ alone 5 }
 {
-    match handle.take_table(alloc) {
+    match handle.take(alloc) {
         None => Answer::of(CLOSED),
-        Some((shared, content)) => {
-            let answer = tell_property(shared.table.version(), code);
-            handle.put_table(content, shared);
+        Some(content) => {
+            let answer = tell_property_by(&content, code);
+            handle.put(content);
             answer
         }
     }
@@ -82,11 +82,11 @@ pub extern "C" fn npss_first_unassigned(alloc: Global, handle: &mut Handle, text
     ensures told { IfSome (version_of handle.old) (λ v. IsAssignedAnswer v text.now result) }
     ensures closed { version_of handle.old ≡ None → result ≡ alone 5 }
 {
-    match handle.take_table(alloc) {
+    match handle.take(alloc) {
         None => Answer::of(CLOSED),
-        Some((shared, content)) => {
-            let answer = tell_first_unassigned(&*shared.table, text);
-            handle.put_table(content, shared);
+        Some(content) => {
+            let answer = tell_first_unassigned_by(&content, text);
+            handle.put(content);
             answer
         }
     }

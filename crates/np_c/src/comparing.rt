@@ -1,11 +1,14 @@
 //! Questions on texts and versions.
-ghost use Rattle.std.specs.Prelude.{◌≡◌};
+ghost use Rattle.std.specs.Prelude.{◌≡◌, None, Some, IfSome};
 ghost use Rattle.np_c.specs.Answers.{told_break, IsEquivalentAnswer, IsExtensionAnswer, IsOwnFormAnswer};
 ghost use Rattle.np_c.specs.Ascii.{IsAsciiAnswer};
 ghost use Rattle.np_chain.specs.Breaks.{number_of};
+ghost use Rattle.np_c.specs.Statuses.{alone};
+ghost use Rattle.np_c.specs.Versions.{version_in};
 ghost use Rattle.np_c.specs.inside.FaultAnswers.{told_answer};
 
-use crate::answers::{Answer, DIFFERENT, DONE, MEMORY, NO_FORM};
+use crate::answers::{Answer, CLOSED, DIFFERENT, DONE, MEMORY, NO_FORM};
+use crate::content::Content;
 use crate::texts::{form_in, text_in};
 use np_chain::{Break, BreakKind, extends};
 use np_forms::{equivalent, is_form};
@@ -37,6 +40,17 @@ pub fn tell_form<T: NormTable>(alloc: Global, table: &T, letter: u8, bytes: &[u8
     match is_form(alloc, table, form, text) {
         Ok(yes) => answer_of_truth(yes),
         Err(_) => Answer::of(MEMORY),
+    }
+}
+
+/// Whether a text is its own normal form by the table that is held, which stays where it stands.
+pub fn tell_form_by(alloc: Global, content: &Content, letter: u8, bytes: &[u8]) -> Answer
+    ensures told { IfSome (version_in (Some content.now)) (λ v. IsOwnFormAnswer v letter bytes.now result) }
+    ensures closed { version_in (Some content.now) ≡ None → result ≡ alone 5 }
+{
+    match content.table() {
+        Some(shared) => tell_form(alloc, &*shared.table, letter, bytes),
+        None => Answer::of(CLOSED),
     }
 }
 

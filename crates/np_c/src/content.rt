@@ -1,7 +1,7 @@
 //! What handles hold.
-ghost use Rattle.std.specs.Prelude.{◌≡◌, Some, IfOk};
+ghost use Rattle.std.specs.Prelude.{◌≡◌, None, Some, IfNone, IfOk, IfSome};
 ghost use Rattle.np_c.specs.declared.content.Content.TheVariants.{Table};
-ghost use Rattle.np_c.specs.Contents.{node_in, stream_in};
+ghost use Rattle.np_c.specs.Contents.{node_in, stream_in, table_in};
 
 use crate::kept_node::KeptNode;
 use crate::kept_streams::KeptStream;
@@ -57,6 +57,17 @@ impl Content {
     {
         let inner = Box::new(alloc, kept)?;
         Ok(Box::new(alloc, Content::Stream(inner))?)
+    }
+
+    /// The table, which stays where it stands.
+    pub fn table(&self) -> Option<&Shared>
+        ensures some { IfSome result (λ shared. table_in (Some self.now) ≡ Some shared.now) }
+        ensures none { IfNone result (table_in (Some self.now) ≡ None) }
+    {
+        match self {
+            Content::Table(shared) => Some(shared),
+            Content::Nothing | Content::Node(_) | Content::Stream(_) => None,
+        }
     }
 }
 

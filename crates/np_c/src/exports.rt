@@ -11,7 +11,7 @@ ghost use Rattle.np_c.specs.Statuses.{alone, with_length};
 ghost use Rattle.np_c.specs.Versions.{content_of, version_of};
 
 use crate::answers::{Answer, CLOSED, DONE, MEMORY};
-use crate::comparing::{tell_ascii, tell_equivalent, tell_extension, tell_form};
+use crate::comparing::{tell_ascii, tell_equivalent, tell_extension, tell_form_by};
 use crate::handles::Handle;
 use crate::keys::{form_by, key_by};
 use crate::lines::{Asked, write_answers};
@@ -141,11 +141,11 @@ pub extern "C" fn npss_is_form(alloc: Global, handle: &mut Handle, form: u8, tex
     ensures told { IfSome (version_of handle.old) (λ v. IsOwnFormAnswer v form text.now result) }
     ensures closed { version_of handle.old ≡ None → result ≡ alone 5 }
 {
-    match handle.take_table(alloc) {
+    match handle.take(alloc) {
         None => Answer::of(CLOSED),
-        Some((shared, content)) => {
-            let answer = tell_form(alloc, &*shared.table, form, text);
-            handle.put_table(content, shared);
+        Some(content) => {
+            let answer = tell_form_by(alloc, &content, form, text);
+            handle.put(content);
             answer
         }
     }

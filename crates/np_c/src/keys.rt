@@ -6,13 +6,14 @@ ghost use Rattle.np_c.specs.Texts.{IsFormOf, IsKeyOf, IsNoForm, IsNoKey};
 ghost use Rattle.np_c.specs.Versions.{version_in};
 
 use crate::answers::{Answer, CLOSED, MEMORY, NO_FORM, UNASSIGNED};
+use crate::ascii::are_ascii;
 use crate::content::Content;
 use crate::room::put;
 use crate::texts::{form_in, text_in};
 use crate::workroom::Workroom;
 use np_code_points::Form;
 use np_forms::{FormBuffer, NpssFault, make_form, make_npss};
-use np_versions::{NormTable, ascii_front};
+use np_versions::NormTable;
 
 /// The most bytes of a text that is looked at byte by byte.
 const SHORT: usize = 64;
@@ -26,7 +27,7 @@ fn stays<T: NormTable>(table: &T, form: Form, bytes: &[u8]) -> bool
     if bytes.len() > SHORT {
         return false;
     }
-    if ascii_front(bytes) < bytes.len() {
+    if !are_ascii(bytes) {
         return false;
     }
     table.ascii_passes(form)

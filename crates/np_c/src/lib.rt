@@ -4,6 +4,7 @@
 
 mod answers;
 mod apart;
+mod ascii;
 mod caseless;
 mod caseless_exports;
 mod code_exports;

@@ -1,9 +1,12 @@
 //! What a version says of code points.
-ghost use Rattle.std.specs.Prelude.{◌≡◌, IfOk, string_bytes};
+ghost use Rattle.std.specs.Prelude.{◌≡◌, None, Some, IfOk, IfSome, string_bytes};
 ghost use Rattle.np_versions.specs.Versions.{decomposition_kind};
 ghost use Rattle.np_c.specs.Codes.{IsAssignedAnswer, IsCompositeAnswer, IsDecompositionAnswer, IsDecompositionOf, IsPropertyAnswer, number_of};
+ghost use Rattle.np_c.specs.Statuses.{alone};
+ghost use Rattle.np_c.specs.Versions.{version_in};
 
-use crate::answers::{Answer, DIFFERENT, DONE, MEMORY, NO_CODE, UNASSIGNED};
+use crate::answers::{Answer, CLOSED, DIFFERENT, DONE, MEMORY, NO_CODE, UNASSIGNED};
+use crate::content::Content;
 use crate::room::put;
 use crate::texts::text_in;
 use np_code_points::Memory;
@@ -57,6 +60,17 @@ pub fn tell_property(version: &Version, code: u32) -> Answer
         code: u32::from(version.class_of(code)),
         place: u64::from(version.is_excluded(code)),
         ..Answer::of(DONE)
+    }
+}
+
+/// What the version of the table that is held says of a code point. The table stays where it stands.
+pub fn tell_property_by(content: &Content, code: u32) -> Answer
+    ensures told { IfSome (version_in (Some content.now)) (λ v. IsPropertyAnswer v code result) }
+    ensures closed { version_in (Some content.now) ≡ None → result ≡ alone 5 }
+{
+    match content.table() {
+        Some(shared) => tell_property(shared.table.version(), code),
+        None => Answer::of(CLOSED),
     }
 }
 
@@ -128,5 +142,16 @@ pub fn tell_first_unassigned<T: NormTable>(table: &T, bytes: &[u8]) -> Answer
             ..Answer::of(UNASSIGNED)
         },
         None => Answer::of(DONE),
+    }
+}
+
+/// The first code point of a text that is not assigned by the table that is held, which stays where it stands.
+pub fn tell_first_unassigned_by(content: &Content, bytes: &[u8]) -> Answer
+    ensures told { IfSome (version_in (Some content.now)) (λ v. IsAssignedAnswer v bytes.now result) }
+    ensures closed { version_in (Some content.now) ≡ None → result ≡ alone 5 }
+{
+    match content.table() {
+        Some(shared) => tell_first_unassigned(&*shared.table, bytes),
+        None => Answer::of(CLOSED),
     }
 }

@@ -1,8 +1,8 @@
-use Rattle.std.proofs.Common.{◌≡◌, ◌++◌, drop, length, map, get_or, sym, subst, ap, inl, refl, arith}
+use Rattle.std.proofs.Common.{◌≡◌, ◌++◌, drop, length, map, get_or, sym, subst, ap, inl, arith}
 use Rattle.std.proofs.lemmas.List.{length-map}
 use Rattle.std.proofs.lemmas.Str.{chars-IsAscii, encodes-IsAscii, IsUtf8-from_ascii}
 use Rattle.np_caseless.specs.Caseless.{IsCaseless}
-use Rattle.np_caseless.proofs.AsciiLemmas.{ascii_assigned, ascii_caseless, folded_ascii, front_is_all}
+use Rattle.np_caseless.proofs.AsciiLemmas.{ascii_assigned, ascii_caseless, folded_ascii}
 use Rattle.np_c.specs.declared.answers.Answer.{Answer}
 use Rattle.np_c.proofs.caseless.put_ascii.Goals as goal
 
@@ -12,8 +12,7 @@ returns-clause-key g c = λ form.
     let bytes = c.args.bytes.now in
     let folding = c.in_ok-folding.folding.now in
     let folds = c.in_ok-folding.ensures in
-    let ascii =
-    front_is_all bytes bytes c.ascii_front.result refl (omega (arith, c.if-ascii_front-bytes.false, c.ascii_front.ensures.fits)) c.ascii_front.ensures.ascii in
+    let ascii = c.are_ascii.ensures c.if-not-are_ascii.false in
     let made = map (λ b. get_or folding b 0) bytes in
     let same : length made ≡ length bytes = length-map bytes (λ b. get_or folding b 0) in
     record {
