@@ -1,2 +1,3 @@
 pub mod CaselessAnswers
 pub mod Laws
+pub mod inside

@@ -1,5 +1,5 @@
 -- How a code point is looked up among the foldings, by halves.
-use Rattle.std.proofs.Common.{◌≡◌, ℕ, zero, suc, ◌-◌, ◌<◌, ◌≤◌, Bor, Bool, true, false, leb, List, [], ◌∷◌, length, get_or, map, refl, sym, ap, subst, ◌∙◌, eqb, arith, ⊎_elim}
+use Rattle.std.proofs.Common.{◌≡◌, ℕ, zero, suc, ◌-◌, ◌/◌, ◌<◌, ◌≤◌, Bor, Bool, true, false, leb, List, [], ◌∷◌, length, get_or, map, ◌+◌, refl, sym, ap, subst, ◌∙◌, eqb, arith, ⊎_elim}
 use denote.Param.Members.{Mut}
 use Rattle.std.specs.List.{All, AllPairs, AllWithin}
 use Rattle.std.specs.List.Sorted.{IsNonDecreasingBy, IsPartitionPoint, IsPartitionedBy}
@@ -11,6 +11,7 @@ use Rattle.std.proofs.lemmas.List.Sorted.{IsPartitionPoint-from_clause, IsPartit
 use Rattle.np_foldings.specs.declared.foldings as code
 use Rattle.np_foldings.specs.Foldings.{Folding, folding_at}
 use Rattle.np_foldings.specs.FoldingValues.{folding_of}
+use Rattle.np_foldings.specs.inside.Blocks.{AreMarked, IsMarked}
 
 abbrev Item : Type 0
 Item = code.Folding.Folding
@@ -91,3 +92,21 @@ pub none_begun : (items : List Item) (n c : ℕ) → Begun c items n → n ≡ 0
 none_begun items n c begun none =
     none_among items c (All-from_all_within (IsOther c) items (λ i d low high e.
     let past = leb-false (get_or items i d).code c (begun.1 i d (omega arith) high) in omega arith))
+
+-- where the block of a code point isn't marked, it isn't listed
+pub not_marked : (items : List Item) (blocks : List ℕ) (c : ℕ) → AreMarked blocks items → get_or blocks (c / 256) 1 ≡ 0 → folding_at (map folding_of items) c ≡ c ∷ []
+not_marked items blocks c marked none =
+    none_among items c (All-from_all_within (IsOther c) items (λ i d low high e. marked i d high (ap (λ n. get_or blocks (n / 256) 1) e ∙ none)))
+
+-- one more block is marked
+pub marked_next : (items : List Item) (before after : List ℕ) (at : ℕ) (f : Item) → f ≡ get_or items at f → at < length items → IsMarked after f.code
+    → ((c : ℕ) → IsMarked before c → IsMarked after c) → ((k : ℕ) (d : Item) → k < at → k < length items → IsMarked before (get_or items k d).code)
+    → (k : ℕ) (d : Item) → k < at + 1 → k < length items → IsMarked after (get_or items k d).code
+marked_next items before after at f is inside here others done k d lt within =
+    ⊎_elim
+    (λ earlier. others (get_or items k d).code (done k d earlier within))
+    (λ le.
+    let place : at ≡ k = omega arith in
+    let same = is ∙ get_or_default items at f d inside ∙ ap (λ n. get_or items n d) place in
+    subst (λ (g : Item). IsMarked after g.code) same here)
+    (cases_lt k at)

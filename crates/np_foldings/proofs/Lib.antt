@@ -10,3 +10,4 @@ pub mod FindLemmas
 pub mod LawGrammar
 pub mod LowercaseGrammar
 pub mod ReaderLemmas
+pub mod EmptyFields

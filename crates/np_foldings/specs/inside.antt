@@ -1,3 +1,4 @@
+pub mod Blocks
 pub mod FieldReading
 pub mod FileReading
 pub mod HeadReading

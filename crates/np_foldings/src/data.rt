@@ -57,5 +57,5 @@ pub(crate) fn foldings_of(alloc: Global, bytes: &[u8]) -> Result<Foldings, Foldi
 {
     let mut foldings = Vec::new(alloc);
     take_lines(alloc, &mut foldings, bytes)?;
-    Ok(Foldings::from_foldings(foldings))
+    Ok(Foldings::from_foldings(alloc, foldings)?)
 }

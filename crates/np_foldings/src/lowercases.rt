@@ -1,5 +1,5 @@
 //! The lowercases of UnicodeData.txt.
-ghost use Rattle.std.specs.Prelude.{◌≡◌, IfOk};
+ghost use Rattle.std.specs.Prelude.{◌≡◌, [], IfOk, IsTrue};
 ghost use Rattle.np_code_points.specs.inside.WordCuts.{words_of};
 ghost use Rattle.np_code_points.specs.declared.words.Dividers.TheVariants.{Spaces as BySpaces};
 ghost use Rattle.np_ucd.specs.inside.FieldReading.{opens_range as opening, closes_range as closing};
@@ -10,7 +10,7 @@ ghost use Rattle.np_foldings.specs.inside.LowercaseReading.{said_lower, word_cod
 use crate::fields::next_field;
 use np_code_points::Memory;
 use np_code_points::codes::code_of;
-use np_code_points::lines::DataLines;
+use np_code_points::lines::{DataLines, count};
 use np_code_points::words::{Dividers, Words};
 use std::alloc::Global;
 
@@ -19,6 +19,8 @@ const CODE: usize = 0;
 const NAME: usize = 1;
 
 const LOWERCASE: usize = 13;
+
+const LAST: usize = 14;
 
 /// A code point and its lowercase (UAX #44, Simple_Lowercase_Mapping).
 #[derive(Clone, Copy, Debug, PartialEq, Eq)]
@@ -74,10 +76,20 @@ fn written_code(field: &[u8]) -> Option<u32>
     }
 }
 
+/// Whether a record of fifteen fields is known to say none: its last two fields are empty, as those of nearly each record are.
+fn says_none(text: &[u8]) -> bool
+    ensures { IsTrue result → said_lower text.now ≡ [] }
+{
+    text.ends_with(b";;") && count(text, b';') == LAST
+}
+
 /// The lowercase that a record says.
 fn lower_of(text: &[u8]) -> Option<Lowercase>
     ensures { listed_lower result ≡ said_lower text.now }
 {
+    if says_none(text) {
+        return None;
+    }
     let name = field_at(text, NAME);
     if opens_range(name) {
         return None;

@@ -1,25 +1,34 @@
-use Rattle.std.proofs.Common.{◌≡◌, ◌++◌, ◌∷◌, [], get_or, map, subst, arith}
-use Rattle.np_caseless.proofs.AsciiLemmas.{front_is_all}
 use Rattle.np_caseless.specs.Caseless.{IsCaseless}
 use Rattle.np_lines.specs.Answers.{IsAnswerBy}
-use Rattle.np_lines.specs.Lines.{byte_of}
-use Rattle.np_lines.proofs.PushedLemmas.{pushed-key, pushed-none}
-use Rattle.np_caseless_lines.proofs.AsciiLemmas.{ascii_answer}
+use Rattle.np_lines.proofs.PushedLemmas.{pushed-none}
+use Rattle.std.proofs.Common.{◌≡◌, ◌≤◌, ◌∙◌, ℕ, length, drop, map, take, get_or, ◌++◌, sym, subst, arith}
+use Rattle.std.specs.Str.{IsAscii}
+use Rattle.std.proofs.lemmas.List.{take_at}
+use Rattle.np_caseless_lines.proofs.AsciiLemmas.{behind_ascii, folded_pushed, within_is}
 use Rattle.np_caseless_lines.proofs.ascii.push_ascii.Goals as goal
 
-pub lines-init : goal.lines-init
-lines-init c = (c.utf8.text, λ v form sound folds. pushed-none (IsAnswerBy (IsCaseless v form) v.version c.args.end) c.args.end c.args.text.now c.args.out.now.items)
+pub returns-then-not-keeps_ends : goal.returns-then-not-keeps_ends
+returns-then-not-keeps_ends c = λ v form sound folds. pushed-none (IsAnswerBy (IsCaseless v form) v.version c.args.end) c.args.end c.args.text.now c.args.out.now.items
 
-pub lines-preserved : goal.lines-preserved
-lines-preserved c =
-    let kept = c.lines.invariant in
-    let parts = c.in-Some.ensures in
-    let line = c.in-Some.line.now in
-    let ascii = front_is_all line c.as_bytes.result.now c.ascii_front.result c.as_bytes.ensures.value (omega (arith, c.if-ascii_front-line.false, c.ascii_front.ensures.fits)) c.ascii_front.ensures.ascii in (
-      parts.utf8.1,
-      λ v form sound folds.
-          let Is = IsAnswerBy (IsCaseless v form) v.version c.args.end in
-          pushed-key Is c.args.end c.args.text.now c.lines.rest.now line c.in-Some.behind.now (map (λ b. get_or c.args.bytes.now b 0) line) c.args.out.now.items c.lines.out.items c.push_answer.new.out.items
-          (kept.1 v form sound folds) parts.cut parts.line (ascii_answer v form c.args.bytes.now sound folds c.args.end line ascii c.if-line-gt-LIMIT.false parts.line)
-          (subst (λ l. c.push_answer.new.out.items ≡ c.lines.out.items ++ (61 ∷ map (λ b. get_or c.args.bytes.now b 0) l ++ byte_of c.args.end ∷ [])) c.as_bytes-in-lines.ensures.value c.in_ok-push_answer.ensures),
-    )
+pub fold_from-requires-clause-place : goal.fold_from-requires-clause-place
+fold_from-requires-clause-place c =
+    let count : c.len-from.result ≡ length c.args.out.now.items = omega (arith, c.len-from.ensures, c.args.out.now.ok.0) in
+    subst (λ l. c.len-from.result ≤ length l) (sym c.as_mut_slice.ensures.value)
+    (within_is c.args.bytes.now c.args.end (c.keeps_ends.ensures c.if-not-keeps_ends.false) c.args.text.now c.in_ok-rest.rest.now c.args.out.now.items c.push_lines.new.out.items c.len-from.result count c.in_ok-rest.ensures)
+
+pub fold_from-requires-clause-ascii : goal.fold_from-requires-clause-ascii
+fold_from-requires-clause-ascii c =
+    let count : c.len-from.result ≡ length c.args.out.now.items = omega (arith, c.len-from.ensures, c.args.out.now.ok.0) in
+    subst (λ l. IsAscii (drop c.len-from.result l)) (sym c.as_mut_slice.ensures.value)
+    (behind_ascii c.args.bytes.now c.args.end (c.keeps_ends.ensures c.if-not-keeps_ends.false) c.args.text.now c.in_ok-rest.rest.now c.args.out.now.items c.push_lines.new.out.items c.len-from.result count c.in_ok-rest.ensures)
+
+pub returns : goal.returns
+returns c = λ v form sound folds.
+    let count : c.len-from.result ≡ length c.args.out.now.items = omega (arith, c.len-from.ensures, c.args.out.now.ok.0) in
+    let f : ℕ → ℕ = λ b. get_or c.args.bytes.now b 0 in
+    let room = c.fold_from.new.room in
+    let whole : length room ≡ c.push_lines.new.out.len = omega (arith, c.as_mut_slice.ensures.len, c.fold_from.ensures.length) in
+    let all = take_at room (drop (length room) c.push_lines.new.out.items) c.push_lines.new.out.len (omega (arith, whole)) in
+    folded_pushed c.args.bytes.now c.args.end (c.keeps_ends.ensures c.if-not-keeps_ends.false) v form sound folds c.args.text.now c.in_ok-rest.rest.now c.args.out.now.items
+    c.push_lines.new.out.items (take c.push_lines.new.out.len (room ++ drop (length room) c.push_lines.new.out.items)) c.len-from.result count c.in_ok-rest.ensures
+    (all ∙ subst (λ l. room ≡ take c.len-from.result l ++ map f (drop c.len-from.result l)) c.as_mut_slice.ensures.value c.fold_from.ensures.value)

@@ -37,3 +37,6 @@ returns c =
     (ap closes_range (sym c.field_at-name.ensures) ∙ sym c.closes_range.ensures ∙ c.if-closes_range.false)
     (ap code_value (sym c.field_at.ensures) ∙ sym c.code_of.ensures.value ∙ c.in_ok-code.was)
     (ap (λ f. word_code (words_of Spaces f)) (sym c.field_at-2.ensures) ∙ sym c.written_code.ensures ∙ c.in_ok-lower.was)
+
+pub returns-then-says_none : goal.returns-then-says_none
+returns-then-says_none c = sym (c.says_none.ensures c.if-says_none.true)
