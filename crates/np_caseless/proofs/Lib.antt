@@ -16,5 +16,6 @@ pub mod LeastLemmas
 pub mod LengthLemmas
 pub mod ListedLemmas
 pub mod QuietLemmas
+mod RunLemmas
 pub mod StabilityLemmas
 pub mod UnfoldedLemmas

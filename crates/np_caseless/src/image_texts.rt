@@ -1,5 +1,6 @@
 //! What may stand in place of a text before the last normalization of its caseless key.
-ghost use Rattle.std.specs.Prelude.{◌≡◌, ◌∷◌, [], Bool, chars as code_points, get_or, string_bytes, IfOk, IfSome, IsTrue, IsUtf8};
+ghost use Rattle.std.specs.Prelude.{◌≡◌, ◌∷◌, [], ℕ, Bool, List, chars as code_points, get_or, string_bytes, IfOk, IfSome, IsTrue, IsUtf8};
+ghost use Rattle.np_forms.specs.inside.Readings.{IsRead};
 ghost use Rattle.std.specs.List.{All};
 ghost use Rattle.np_caseless.specs.Folded.{FoldedVersion};
 ghost use Rattle.np_caseless.specs.inside.Images.{AreImages};
@@ -29,6 +30,23 @@ pub(crate) fn are_marked(own: &[u8], text: &str) -> bool
         }
     }
     true
+}
+
+/// What follows the code points at the front of a text that are marked.
+fn behind_marked<'t>(own: &[u8], text: &'t str) -> &'t str
+    ensures { (front : List ℕ) × IsRead text.now result.now front × All (IsMarked own.now) front }
+{
+    let mut rest = text;
+    'scan: loop {
+        let mut iter = rest.chars();
+        let Some(code) = iter.next() else {
+            return rest;
+        };
+        if !is_marked(own, code) {
+            return rest;
+        }
+        rest = iter.as_str();
+    }
 }
 
 /// The image of a code point in a list, which is in the order of its code points, where it is there.
@@ -71,15 +89,19 @@ pub(crate) fn image_text(
         → IfOk result (λ made. IfSome made (λ t. AreImages v compat (code_points text.now) (code_points (string_bytes t)))) }
 {
     let mut made = String::with_capacity(alloc, text.len())?;
-    for code in text.chars() {
-        if is_marked(images.own.as_slice(), code) {
-            made.push(code)?;
-        } else {
-            let Some(image) = image_of(images, code) else {
-                return Ok(None);
-            };
-            made.push_str(image)?;
-        }
+    let mut rest = text;
+    'runs: loop {
+        let behind = behind_marked(images.own.as_slice(), rest);
+        let (front, _behind) = rest.split_at(rest.len() - behind.len());
+        made.push_str(front)?;
+        let mut iter = behind.chars();
+        let Some(code) = iter.next() else {
+            return Ok(Some(made));
+        };
+        let Some(image) = image_of(images, code) else {
+            return Ok(None);
+        };
+        made.push_str(image)?;
+        rest = iter.as_str();
     }
-    Ok(Some(made))
 }
