@@ -72,7 +72,7 @@ PLANTS = {
     "a raise takes no lock": (RAISE, "\tLockRelationOid(RelationGetRelid(call->tg_relation), ShareUpdateExclusiveLock);\n", "", "Upgrades"),
     "two raises wait for one another": (RAISE, "ShareUpdateExclusiveLock", "ShareRowExclusiveLock", "Upgrades"),
     "rows of the same statement are not seen": (RAISE, "read_rows(relation, SnapshotSelf)", "read_rows(relation, NULL)", "Upgrades"),
-    "sessions are not told of a raise": (RAISE, "\tCacheInvalidateRelcache(relation);\n", "", "Upgrades"),
+    "sessions are not told of a raise": (RAISE, "\tif (row != NULL)\n\t\tCacheInvalidateRelcache(relation);\n", "", "Upgrades"),
     "a session that missed messages stays behind": (RECORD, "relation == watched || relation == InvalidOid", "relation == watched", "Upgrades"),
     "a row that is recorded comes again": (RAISE, "recorded = row_of_digest(rows, fresh->digest);", "recorded = row_of_digest(rows, \"\");"),
     "the least count is in force": (RECORD, "a > b ? -1 : a < b", "a < b ? -1 : a > b"),
