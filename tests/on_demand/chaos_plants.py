@@ -20,6 +20,7 @@ from pathlib import Path
 sys.path.insert(0, str(Path(__file__).resolve().parent.parent))
 
 from harness import ROOT, Tally, programs_in
+from on_demand.planting import plant
 
 # What chaos runs over, in turn, and its first seed, one of a registry that refuses equivalents.
 RUNS, SEED = (("sqlite", "nfkc"), ("redis", "nfc"), ("sqlite", "nfc"), ("redis", "nfkc")), 3
@@ -67,7 +68,7 @@ PLANTS = {
     "an image with the wrong place": ("shards.py", """self._store.save(self.number, self.node.image(), self.place, self._version)""",
                                       """self._store.save(self.number, self.node.image(), max(self.place - 1, 0), self._version)"""),
     "the last record is not compared": ("shards.py", """(found is None or records.sum_of(found) != self._last)""", """found is None"""),
-    "an answer before the record is read back": ("registry.py", """        told = self._read_on({number for _, number, _ in publish})
+    "an answer before the record is read back": ("registry.py", """        outcomes = self._read_on({number for _, number, _ in publish})
 """, """        return {index: Outcome("registered") for index, _, _ in publish}
 """),
     "the random bytes are left out": ("records.py", """secrets.token_bytes(_NONCE)""", """bytes(_NONCE)"""),
@@ -110,15 +111,15 @@ TESTED = {
                                                      "CaselessVersions.test_a_lagging_node_parks_no_caseless_key_that_is_none"),
     "a caseless key of a parked name is not compared": ("shards.py", """            self._examiner.claim(place, claim)
             if self._take""", """            if self._take""", "CaselessVersions.test_a_wrong_caseless_key_of_a_parked_name_stops_the_upgrade"),
-    "a claim without its caseless key is taken": ("records.py", """_text(told["caseless"]) if caseless else None""",
-                                                  """_text(told.get("caseless") or "") if caseless else None""",
+    "a claim without its caseless key is taken": ("records.py", """_text(fields["caseless"]) if caseless else None""",
+                                                  """_text(fields.get("caseless") or "") if caseless else None""",
                                                   "CaselessLogs.test_a_claim_without_its_caseless_key_is_no_record"),
     "an older program reads the setup of a caseless log": ("records.py", "_SETUP, _SNAPSHOT = (2, 4), (3, 5)", "_SETUP, _SNAPSHOT = (2, 2), (3, 3)",
                                                            "CaselessLogs.test_an_older_program_reads_no_setup_of_a_caseless_log"),
     "a missing program is a faulty file": ("command.py", "InUse, NoProgram, CannotServe)):", "InUse, CannotServe)):", "Statuses.test_a_program_that_is_missing"),
     "a later store doesn't take from the log that it is caseless": ("registry.py", "caseless=setup.caseless or found.caseless)", "caseless=setup.caseless)",
                                                                     "CaselessStores.test_the_words"),
-    "a snapshot has no caseless keys": ("snapshots.py", "    return told if name.caseless is None else [*told, name.caseless]\n", "    return told\n",
+    "a snapshot has no caseless keys": ("snapshots.py", "    return row if name.caseless is None else [*row, name.caseless]\n", "    return row\n",
                                         "CaselessTrims.test_a_store_begins_with_the_caseless_keys_of_a_snapshot"),
     "a snapshot's sum leaves caseless keys out": ("records.py", "for text in name[1:] if text is not None]", "for text in name[1:4]]",
                                                   "CaselessTrims.test_what_stands_beside_the_log_has_caseless_keys"),
@@ -139,7 +140,7 @@ TESTED = {
 """, "", "PostgresFaults.test_what_no_standby_has_is_not_read"),
     "a wait that was cancelled is an answer": ("logs/postgres_cluster.py", "if base.warning is not None:", "if False:",
                                                "PostgresFaults.test_a_wait_that_somebody_cancels_is_no_answer"),
-    "a primary without standbys is used on": ("logs/postgres_log.py", """        self._cluster.check(found[1:])
+    "a primary without standbys is used on": ("logs/postgres_log.py", """        self._cluster.check(settings)
 """, "", "PostgresSettings.test_a_primary_that_waits_for_nobody"),
     "a compare is left out": ("logs/etcd_log.py", """            "compare": [unchanged(self._tail_key(shard), tail) for shard, tail in tails.items()],
 """, """            "compare": [],
@@ -155,16 +156,16 @@ TESTED = {
     "a password stays in the store": ("store.py", "self.named_log = without_password(self._base, file, self.named_log)", "pass",
                                       "Passwords.test_a_store_that_holds_it_is_read_on_and_loses_it"),
     "another past is another address": ("address.py", "if total != wanted:", "if False:", "Renaming.test_a_log_of_another_past"),
-    "a trim that deletes what a store lacks": ("trim.py", "self._bring(self._log.append([(shard, records.spelled(told)) for shard, told in enumerate(sums)]))",
-                                               "self._log.append([(shard, records.spelled(told)) for shard, told in enumerate(sums)])",
+    "a trim that deletes what a store lacks": ("trim.py", "self._bring(self._log.append([(shard, records.spelled(snapshot)) for shard, snapshot in enumerate(sums)]))",
+                                               "self._log.append([(shard, records.spelled(snapshot)) for shard, snapshot in enumerate(sums)])",
                                                "Trimming.test_what_a_named_store_lacks_is_not_deleted"),
     "a trim without a clean check": ("trim.py", "        if findings:\n", "        if False:\n", "Trimming.test_where_the_judge_finds_something_nothing_is_written"),
     "a snapshot's sum is not compared": ("shards.py", "            self._check_sum(place, record)\n", "            pass\n", "Snapshots.test_a_wrong_sum_stops_each_node"),
-    "what stands beside the log is believed": ("snapshots.py", "(told.place, told.names, told.sum) != (place, *records.sum_of_names(names))", "False",
+    "what stands beside the log is believed": ("snapshots.py", "(snapshot.place, snapshot.names, snapshot.sum) != (place, *records.sum_of_names(names))", "False",
                                                "Snapshots.test_what_stands_beside_the_log_is_examined"),
-    "the journal goes on over a snapshot": ("shards.py", """        self._store.applied(self.number, self.place, self._last, self._sum)
+    "the journal goes on over a snapshot": ("shards.py", """        self._store.applied(self.number, self.place, last, self._sum)
         self.begin_journal()
-""", """        self._store.applied(self.number, self.place, self._last, self._sum)
+""", """        self._store.applied(self.number, self.place, last, self._sum)
 """, "Trimming.test_names_stay_and_what_stands_before_is_gone"),
     "a log that is trimmed meanwhile is read over the gap": ("logs/protocol.py", "if at and piece[0][0] != at:", "if False:",
                                                              "SqliteKind.test_a_log_that_is_trimmed_while_it_is_read"),
@@ -200,13 +201,7 @@ def planted(folder, name):
     """A copy of the registry with a bug in it."""
     file, old, new = (PLANTS.get(name) or TESTED[name])[:3]
     copy = copied(folder)
-    path = copy / "npss_registry" / file
-    text = path.read_text(encoding="utf-8")
-    for before, behind in [(old, new)] if isinstance(old, str) else zip(old, new):
-        if text.count(before) != 1:
-            raise SystemExit(f"{name}: the text to be edited stands {text.count(before)} times in {file}")
-        text = text.replace(before, behind)
-    path.write_text(text, encoding="utf-8")
+    plant(copy / "npss_registry" / file, [(old, new)] if isinstance(old, str) else zip(old, new))
     return copy
 
 

@@ -22,6 +22,7 @@ sys.path.insert(0, str(Path(__file__).resolve().parent.parent))
 from hosts import databases
 import ucd
 from harness import ROOT, Tally
+from on_demand.planting import plant
 
 KEYS, REFUSALS, QUESTIONS, WHY, RECORD, RAISE, OWNER, FILES, VERSIONS, SETTINGS, CASELESS, FOLDING = (
     f"postgresql/{name}.c" for name in ("keys", "refusals", "questions", "why", "record", "raise", "owner", "files", "versions", "npss_pg", "caseless", "folding"))
@@ -297,11 +298,7 @@ def planted(folder, name):
         shutil.copy(ROOT / page, Path(folder, page))
     if name:
         file, old, new = PLANTS[name][:3]
-        path = Path(folder, file) if file == PAGE else copy / file
-        text = path.read_text(encoding="utf-8")
-        if text.count(old) != 1:
-            raise RuntimeError(f"the text to be edited stands {text.count(old)} times in {file}")
-        path.write_text(text.replace(old, new), encoding="utf-8")
+        plant(Path(folder, file) if file == PAGE else copy / file, [(old, new)])
     return copy
 
 
