@@ -30,7 +30,7 @@ ASCII = "the quick brown fox jumps over a lazy dog "
 LATIN = "Zo\u00eb na\u00efvet\u00e9 \u00e0 c\u00f4t\u00e9 "
 
 # How many instructions a key takes through the library for C, by the text's name in doors/costs.c.
-KEYS = {"short": 207, "long": 1_550, "changed": 1_725, "looked-up": 879}
+KEYS = {"short": 138, "long": 1_550, "changed": 1_707, "looked-up": 883}
 
 
 def version():
