@@ -62,7 +62,7 @@ pub fn tell_ascii<T: NormTable>(table: &T, letter: u8) -> Answer
         return Answer::of(NO_FORM);
     };
     table.meets_conditions();
-    np_forms::laws::told();
+    np_forms::laws::shortcuts();
     answer_of_truth(table.ascii_passes(form))
 }
 

@@ -23,7 +23,7 @@ fn stays<T: NormTable>(table: &T, form: Form, bytes: &[u8]) -> bool
     ensures { IsTrue result → IsKeyOf (T.model table.now) form bytes.now bytes.now }
 {
     table.meets_conditions();
-    np_forms::laws::told();
+    np_forms::laws::shortcuts();
     if bytes.len() > SHORT {
         return false;
     }

@@ -39,7 +39,7 @@ pub fn length()
 /// What a table tells of texts at once is so by the normal forms: a front that its scan passes is its own form (UAX #15,
 /// section 9), and the precomputed form of a code point is its form.
 #[tactic(auto, using(crate::proofs::PrecomputedLemmas::precomputed_is_form, crate::proofs::PrecomputedLemmas::quick_span_front))]
-pub fn told()
+pub fn shortcuts()
     ensures quick_span { QuickSpanForm }
     ensures precomputed { PrecomputedForm }
 {}
