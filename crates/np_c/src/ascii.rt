@@ -1,5 +1,5 @@
 //! Whether a name is ASCII.
-ghost use Rattle.std.specs.Prelude.{◌+◌, ◌<◌, ◌≤◌, ℕ, get_or, length, IsAscii, IsTrue};
+ghost use Rattle.std.specs.Prelude.{◌+◌, ◌<◌, ◌≤◌, ◌↔◌, ℕ, get_or, length, IsAscii, IsTrue};
 
 use np_versions::ascii_front;
 use std::simd::prelude::*;
@@ -11,7 +11,7 @@ const LANES: usize = 8;
 #[inline(always)]
 fn are_lanes_ascii(bytes: &[u8], from: usize) -> bool
     requires { from + 8 ≤ length bytes.now }
-    ensures { IsTrue result → (k : ℕ) → from ≤ k → k < from + 8 → get_or bytes.now k 0 < 128 }
+    ensures { IsTrue result ↔ ((k : ℕ) → from ≤ k → k < from + 8 → get_or bytes.now k 0 < 128) }
 {
     let others = u8x8::from_slice(&bytes[from..])
         .simd_ge(u8x8::splat(0x80))
@@ -22,7 +22,7 @@ fn are_lanes_ascii(bytes: &[u8], from: usize) -> bool
 /// Whether bytes are ASCII. Of 8 to 16 the first 8 and the last 8 are looked at, some of them twice.
 #[inline(always)]
 pub fn are_ascii(bytes: &[u8]) -> bool
-    ensures { IsTrue result → IsAscii bytes.now }
+    ensures { IsTrue result ↔ IsAscii bytes.now }
 {
     let length = bytes.len();
     if LANES <= length && length <= 2 * LANES {

@@ -4,7 +4,6 @@ use Rattle.std.specs.Prelude.{bytes_eq}
 use Rattle.std.proofs.lemmas.Bool.{and_from, and_parts, both_ways, cases_Bool, not-true}
 use Rattle.std.proofs.lemmas.Slice.Eq.{bytes_eq-Decides}
 use Rattle.np_chain.specs.Breaks as version
-use Rattle.np_chain.specs.Breaks.{IsInBoth}
 use Rattle.np_chain.specs.declared.breaks.BreakKind.{BreakKind}
 use Rattle.np_chain.specs.declared.breaks.BreakKind.TheVariants.{Lost, ClassChanged, MappingChanged, NowExcluded, NowIncluded, NewComposite}
 use Rattle.np_chain.proofs.KindLemmas.{break_of-some}

@@ -13,10 +13,10 @@ ghost use Rattle.np_words.specs.CaselessWords.{caseless_asked_of, folded_names_o
 
 use crate::audit::audit_job;
 use crate::compare::CompareJob;
+use crate::folded_jobs::run_over_folded;
 use crate::key::KeyJob;
 use crate::key_under::key_under_job;
 use crate::pairs::open_pair;
-use crate::texts::run_over_folded;
 use crate::usage::{caseless_usage_text, caseless_version_text};
 use crate::words::{CaselessAsked, parse_words};
 use np_code_points::Form;

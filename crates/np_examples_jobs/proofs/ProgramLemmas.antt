@@ -1,5 +1,5 @@
 -- From the end of the program to that of the command that the words ask for.
-use Rattle.std.proofs.Common.{◌≡◌, ◌⊎◌, ◌∷◌, ℕ, Bool, true, false, [], List, Option, Some, None, ap, codes, eqb, flat_map, inl, inr, length, string_bytes}
+use Rattle.std.proofs.Common.{◌≡◌, ◌∷◌, ℕ, true, false, [], List, Option, Some, None, ap, codes, eqb, flat_map, inl, inr, length}
 use Rattle.std.proofs.Common.{subst, sym, ◌∙◌}
 use Rattle.np_code_points.specs.declared.forms.Form.{Form}
 use Rattle.np_jobs.specs.Comparisons.{CompareEnds}
@@ -13,7 +13,7 @@ use Rattle.np_program.specs.Replays.{ReplayEnds}
 use Rattle.np_words.specs.Words.{Asked, asked_by, asked_of, names_of}
 use Rattle.np_words.specs.declared.parsing.Job.{Job}
 use Rattle.np_words.specs.declared.parsing.Job.TheVariants.{Help, Normalize, Key, KeyUnder, Compare, Audit, Replay}
-use Rattle.np_examples_jobs.specs.inside.OverFiles.{AuditOver, CompareOver, HelpOver, KeyOver, KeyUnderOver, NormalizeOver, ReplayOver, IsNotBegun, asking}
+use Rattle.np_examples_jobs.specs.inside.OverFiles.{AuditOver, CompareOver, HelpOver, KeyOver, KeyUnderOver, NormalizeOver, ReplayOver, asking}
 use Rattle.np_examples_jobs.specs.inside.OverFiles.{asking_audit, asking_help, asking_under}
 
 some_is : {A : Type 0} (x y : A) → Some x ≡ Some y → x ≡ y

@@ -38,13 +38,16 @@ falls_nowhere items rise i j d le inside = ⊎_elim
 abbrev pub Begun : ℕ → List Item → ℕ → Type 0
 Begun c items n = IsPartitionPoint (λ (f : Item). leb f.code c ≡ true) (λ (f : Item). leb f.code c ≡ false) items n
 
-pub begun_in_order : {F : Type 0} {g : Mut F (Bor Item × Unit {0}) Bool} {f : F} (c n : ℕ) (lent items : List Item) → lent ≡ items → Rises items → ((q : Item → Bool) → ComputesKey g q f → IsPartitionedBy q lent → IsPartitionPoint (λ y. q y ≡ true) (λ y. q y ≡ false) lent n) → ((a : Bor Item × Unit {0}) (r : Bool) (f' : F) → Called g f a r f' → (r ≡ leb a.0.now.code c) × (f' ≡ f)) → Begun c items n
+pub begun_in_order : {F : Type 0} {g : Mut F (Bor Item × Unit {0}) Bool} {f : F} (c n : ℕ) (lent items : List Item) → lent ≡ items → Rises items
+    → ((q : Item → Bool) → ComputesKey g q f → IsPartitionedBy q lent → IsPartitionPoint (λ y. q y ≡ true) (λ y. q y ≡ false) lent n)
+    → ((a : Bor Item × Unit {0}) (r : Bool) (f' : F) → Called g f a r f' → (r ≡ leb a.0.now.code c) × (f' ≡ f)) → Begun c items n
 begun_in_order {g = g} {f = f} c n lent items same rise clause calls =
     subst (λ xs. Begun c xs n) same (
     IsPartitionPoint-from_clause (λ (l : Item). leb l.code c) {g = g} {f = f} lent n clause
     (IsPartitionedBy-leb (λ (l : Item). l.code) lent c (falls_nowhere lent (subst Rises (sym same) rise))) calls)
 
-head_at : (f : Item) (rest : List Item) (c : ℕ) (t : Bool) → eqb f.code c ≡ t → folding_at (map folding_of (f ∷ rest)) c ≡ elim t [ true ↦ f.mapping.items | false ↦ folding_at (map folding_of rest) c ]
+head_at : (f : Item) (rest : List Item) (c : ℕ) (t : Bool) → eqb f.code c ≡ t
+    → folding_at (map folding_of (f ∷ rest)) c ≡ elim t [ true ↦ f.mapping.items | false ↦ folding_at (map folding_of rest) c ]
 unfolding folding_at
 head_at f rest c true e = cond-true (eqb f.code c) f.mapping.items _ e
 head_at f rest c false e = cond-false (eqb f.code c) f.mapping.items _ e
@@ -58,7 +61,8 @@ none_among [] c others = refl
 none_among (f ∷ items) c others =
     head_at f items c false (ne_eqb f.code c (All-head (IsOther c) f items others)) ∙ none_among items c (All-tail (IsOther c) f items others)
 
-found_at : (items : List Item) (k c : ℕ) (f : Item) → k < length items → f ≡ get_or items k f → f.code ≡ c → AllWithin (IsOther c) items 0 k → folding_at (map folding_of items) c ≡ f.mapping.items
+found_at : (items : List Item) (k c : ℕ) (f : Item) → k < length items → f ≡ get_or items k f → f.code ≡ c → AllWithin (IsOther c) items 0 k
+    → folding_at (map folding_of items) c ≡ f.mapping.items
 found_at [] k c f lt is same others = absurd (omega arith)
 found_at (g ∷ items) zero c f lt is same others =
     head_at g items c true (eq-eqb g.code c (sym (ap (λ (h : Item). h.code) is) ∙ same)) ∙ sym (ap (λ (h : Item). h.mapping.items) is)
@@ -67,7 +71,8 @@ found_at (g ∷ items) (suc k) c f lt is same others =
     ∙ found_at items k c f (omega arith) is same (λ i d low high. others (suc i) d (omega arith) (omega arith))
 
 -- the last that begins at the code point or before is its folding
-pub found : (items : List Item) (n c : ℕ) (f : Item) → Rises items → 0 < n → n ≤ length items → f ≡ get_or items (n - 1) f → f.code ≡ c → folding_at (map folding_of items) c ≡ f.mapping.items
+pub found : (items : List Item) (n c : ℕ) (f : Item) → Rises items → 0 < n → n ≤ length items → f ≡ get_or items (n - 1) f → f.code ≡ c
+    → folding_at (map folding_of items) c ≡ f.mapping.items
 found items n c f rise some bound is same =
     found_at items (n - 1) c f (omega arith) is same (λ i d low high e.
     let lt = rise i (n - 1) d high (omega arith) in
@@ -75,7 +80,8 @@ found items n c f rise some bound is same =
     absurd (omega arith))
 
 -- or is another's, and then none is
-pub not_found : (items : List Item) (n c : ℕ) (f : Item) → Rises items → Begun c items n → 0 < n → n ≤ length items → f ≡ get_or items (n - 1) f → (f.code ≡ c → ⊥) → folding_at (map folding_of items) c ≡ c ∷ []
+pub not_found : (items : List Item) (n c : ℕ) (f : Item) → Rises items → Begun c items n → 0 < n → n ≤ length items → f ≡ get_or items (n - 1) f
+    → (f.code ≡ c → ⊥) → folding_at (map folding_of items) c ≡ c ∷ []
 not_found items n c f rise begun some bound is other =
     none_among items c (All-from_all_within (IsOther c) items (λ i d low high e.
     let last = ap (λ (h : Item). h.code) (is ∙ get_or_default items (n - 1) f d (omega arith)) in
@@ -94,7 +100,8 @@ none_begun items n c begun none =
     let past = leb-false (get_or items i d).code c (begun.1 i d (omega arith) high) in omega arith))
 
 -- where the block of a code point isn't marked, it isn't listed
-pub not_marked : (items : List Item) (blocks : List ℕ) (c : ℕ) → AreMarked blocks items → get_or blocks (c / 256) 1 ≡ 0 → folding_at (map folding_of items) c ≡ c ∷ []
+pub not_marked : (items : List Item) (blocks : List ℕ) (c : ℕ) → AreMarked blocks items → get_or blocks (c / 256) 1 ≡ 0
+    → folding_at (map folding_of items) c ≡ c ∷ []
 not_marked items blocks c marked none =
     none_among items c (All-from_all_within (IsOther c) items (λ i d low high e. marked i d high (ap (λ n. get_or blocks (n / 256) 1) e ∙ none)))
 

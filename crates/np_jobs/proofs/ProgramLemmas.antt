@@ -4,7 +4,7 @@ use Rattle.np_code_points.specs.declared.channels.watched.Watched.{Watched}
 use Rattle.np_code_points.specs.Watched.{device_of}
 use Rattle.np_jobs.specs.Ends.{TellsRefusal, IsTold}
 use Rattle.np_jobs.specs.Programs.{IsProgramEnd, IsRun, JobEnd}
-use Rattle.np_jobs.specs.Streams.{Stream, stream_of}
+use Rattle.np_jobs.specs.Streams.{stream_of}
 use Rattle.np_jobs.specs.declared.faults.JobFault.TheVariants.{Memory}
 use Rattle.np_words.specs.declared.faults.WordsFault.{WordsFault}
 use Rattle.np_words.specs.declared.faults.WordsFault.TheVariants as faults

@@ -1,5 +1,5 @@
 -- What the words of `npss_lines` ask for, by `clap`'s reading of them.
-use Rattle.std.specs.Prelude.{ℕ, Bool, true, false, List, [], ◌∷◌, ◌++◌, is_some, option_map, option_and_then, Option, Some, None, codes, if◌then◌else◌}
+use Rattle.std.specs.Prelude.{Bool, true, false, List, [], ◌∷◌, ◌++◌, is_some, option_map, option_and_then, Option, Some, None, codes, if◌then◌else◌}
 use Rattle.std.specs.Option.{option_zip}
 use Rattle.clap.specs.Words.{Kinds, Row, Text, fault_of, first_of, matches_of}
 use Rattle.np_code_points.specs.declared.forms.Form.{Form}

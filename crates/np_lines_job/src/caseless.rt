@@ -1,24 +1,19 @@
 //! The three files of a version are read, and then the lines of an input are answered by their caseless keys as they are
 //! read.
 ghost use Rattle.std.specs.Prelude.{IfErr, IfOk};
-ghost use Rattle.np_caseless_job.specs.FoldedTexts.{AreFoldedTextReaders, FoldedTextReaders};
 ghost use Rattle.np_caseless_job.specs.FoldedVersions.{IsFoldedFault, WasFolded, folded_readers_of};
-ghost use Rattle.np_jobs.specs.Opening.{IsUnopened};
-ghost use Rattle.np_jobs.specs.Programs.{EndsOrIsUnopened};
 ghost use Rattle.np_jobs.specs.Streams.{stream_of};
 ghost use Rattle.np_jobs.specs.Wraps.{Wraps};
 ghost use Rattle.np_lines_job.specs.CaselessLineKeys.{AreAnsweredCaselessly, AreNotAnsweredCaselessly, CaselessLinesEnd, IsCaselessStop, WasStreamedFolded, of_three};
-ghost use Rattle.np_words.specs.CaselessWords.{folded_names_of};
 
 use crate::job::{LinesRun, status_of_run};
 use crate::stops::{CaselessLinesFault, told_caselessly};
 use np_caseless::FoldedTable;
-use np_caseless_job::{CaselessFault, OpenFiles, open_folded, read_folded};
+use np_caseless_job::{CaselessFault, FoldedJob, OpenFiles, read_folded};
 use np_caseless_lines::CaselessKeys;
 use np_code_points::watched::Watched;
-use np_jobs::{JobTable, MadeTable, Opener, Resources, Streams, refuse};
+use np_jobs::{JobTable, MadeTable, Streams, refuse};
 use np_lines::answer_lines_by;
-use np_words::FoldedFiles;
 use std::alloc::Global;
 use std::io::{Read, Write};
 
@@ -113,25 +108,16 @@ pub fn caseless_lines_job<F: Read, I: Read, O: Write, E: Write>(
     }
 }
 
-/// Opens the three files of a version, and answers the lines of the input. Answers the status; a refusal, or the first file
-/// that can't be opened, is told in a line on the error stream.
-pub(crate) fn run_over_folded<P: Opener, I: Read, O: Write, E: Write>(
-    with: &Resources<'_, P>,
-    asked: LinesRun,
-    files: &FoldedFiles,
-    streams: &mut Streams<I, O, E>,
-) -> u8
-    ensures { EndsOrIsUnopened
-        ((readers : FoldedTextReaders)
-        × AreFoldedTextReaders (P.gives with.now.opener.now) files.now (stream_of I.remaining streams.old.input streams.new.input) readers
-        × CaselessLinesEnd asked readers (stream_of O.contents streams.old.output streams.new.output)
-        (stream_of E.contents streams.old.error streams.new.error) result)
-        (IsUnopened (P.gives with.now.opener.now) (P.lacks with.now.opener.now) (folded_names_of files.now)
-        (stream_of E.contents streams.old.error streams.new.error) result)
-        streams.old streams.new }
-{
-    match open_folded(with.opener, with.alloc, &mut streams.error, files) {
-        Ok(mut opened) => caseless_lines_job(with.alloc, asked, &mut opened, streams),
-        Err(status) => status,
+/// To answer lines by their caseless keys is a job over the three files of a version and an input.
+impl FoldedJob for LinesRun {
+    ghost Ends = { CaselessLinesEnd };
+
+    fn run<F: Read, I: Read, O: Write, E: Write>(
+        &self,
+        alloc: Global,
+        files: &mut OpenFiles<F>,
+        streams: &mut Streams<I, O, E>,
+    ) -> u8 {
+        caseless_lines_job(alloc, *self, files, streams)
     }
 }

@@ -4,8 +4,8 @@ ghost use Rattle.np_jobs.specs.Streams.{stream_of};
 ghost use Rattle.np_lines_job.specs.LineWords.{asked_by, asked_of, lines_usage};
 ghost use Rattle.np_lines_job.specs.LinesProgram.{EndsOverFiles, ProgramEnds};
 
-use crate::caseless::run_over_folded;
 use crate::words::{LinesJob, lines_usage_text, lines_version_text, parse_lines};
+use np_caseless_job::run_over_folded;
 use np_code_points::watched::Watched;
 use np_habits::{KnownWords, refusal_line, refused_in};
 use np_jobs::{
@@ -69,7 +69,7 @@ impl Program for NpssLines {
                 asked,
                 shows_progress: _,
                 files,
-            } => run_over_folded(with, *asked, files, streams),
+            } => run_over_folded(with, asked, files, streams),
         }
     }
 }

@@ -1,5 +1,5 @@
 -- What the programs do for words that ask for each command, over any opener of files: the contract of `run_words`, command by command.
-use Rattle.std.specs.Prelude.{◌≡◌, ◌⊎◌, ◌∷◌, ℕ, Bool, true, false, [], List, Option, Some, None, codes, flat_map}
+use Rattle.std.specs.Prelude.{◌≡◌, ◌⊎◌, ◌∷◌, ℕ, true, false, [], List, Option, Some, None, codes, flat_map}
 use Rattle.np_code_points.specs.declared.forms.Form.{Form}
 use Rattle.np_jobs.specs.Audits.{AuditEnds}
 use Rattle.np_jobs.specs.Chains.{VersionReaders}

@@ -12,7 +12,7 @@ returns-clause-key g c = λ form.
     let bytes = c.args.bytes.now in
     let folding = c.in_ok-folding.folding.now in
     let folds = c.in_ok-folding.ensures in
-    let ascii = c.are_ascii.ensures c.if-not-are_ascii.false in
+    let ascii = c.are_ascii.ensures.0 c.if-not-are_ascii.false in
     let made = map (λ b. get_or folding b 0) bytes in
     let same : length made ≡ length bytes = length-map bytes (λ b. get_or folding b 0) in
     record {
