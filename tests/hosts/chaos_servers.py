@@ -167,12 +167,12 @@ class Members(Etcd):
     def settle(self):
         waited(lambda: self.leader() is not None)
 
-    def _asked(self, path, told):
+    def _asked(self, path, request):
         """What some member answers."""
         answers = []
 
         def ask():
-            answers[:] = [answer for number in range(3) if (answer := self.ask(number, path, told)) is not None][:1]
+            answers[:] = [answer for number in range(3) if (answer := self.ask(number, path, request)) is not None][:1]
             return answers
 
         waited(ask)

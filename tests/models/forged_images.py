@@ -216,8 +216,8 @@ def answers(needs, version):
     """A row for each place and answer: the place, how many bytes go, those that come in hex (`-` for none, several
     ways divided by commas), and the answer."""
     rows = [((at, gone, answer(made, version)), put.hex()) for at, gone, put, made in changes(whole(needs), needs)]
-    for (at, gone, told), puts in groupby(rows, lambda row: row[0]):
-        yield f"{at} {gone} {','.join(put or '-' for _, put in puts)} {told}"
+    for (at, gone, answered), puts in groupby(rows, lambda row: row[0]):
+        yield f"{at} {gone} {','.join(put or '-' for _, put in puts)} {answered}"
 
 
 def wrapped(rows):

@@ -358,9 +358,9 @@ def checked(tally, name, kind, planted_name, prefix, versions):
         found, why = is_found(kind, planted_name, prefix, versions), ""
     except RuntimeError as error:
         found, why = None, str(error)
-    told = why or ("found" if found else "survived")
-    print(f"{name}: {told} after {time.time() - begun:.0f} seconds", flush=True)
-    return tally.check(name, found is bool(planted_name), told)
+    outcome = why or ("found" if found else "survived")
+    print(f"{name}: {outcome} after {time.time() - begun:.0f} seconds", flush=True)
+    return tally.check(name, found is bool(planted_name), outcome)
 
 
 def main():

@@ -38,9 +38,9 @@ class Version(NamedTuple):
 
 def version_of(data, exclusions, foldings):
     """The version of two files, with these folding files."""
-    rows, told = data_files.version_of(data.read_bytes(), exclusions.read_bytes())
+    rows, fault = data_files.version_of(data.read_bytes(), exclusions.read_bytes())
     if rows is None:
-        raise ValueError(told)
+        raise ValueError(fault)
     assigned = [code for row in rows.rows for code in range(row.first, min(row.last, row.first + 9) + 1) if not data_files.is_surrogate(code)]
     text = "".join(map(chr, assigned[:500] + assigned[-20:]))
     return Version((data, exclusions), folding_files.Decompositions(rows), folding_files.lowercases_of(data.read_bytes()),
