@@ -33,7 +33,7 @@ typedef struct fitting {
     char *mark; /* by what it is known again, of sqlite3_mprintf; NULL where none was looked at */
     unsigned data_version;
     sqlite3_int64 others, schema;
-    watch told;
+    watch watched;
 } fitting;
 
 /* How many databases of a connection are remembered, by their numbers: main, temp, and as many as SQLite attaches by itself. */
@@ -83,7 +83,7 @@ void free_files(files *held);
 npss_answer keeps_own(npss_handle *older, npss_handle *newer);
 
 /* record.c */
-int ask_number(sqlite3 *db, const char *text, sqlite3_int64 *told);
+int ask_number(sqlite3 *db, const char *text, sqlite3_int64 *number);
 int folding_column(sqlite3 *db, const char *schema);
 unsigned data_version(sqlite3 *db, const char *schema);
 int transaction_of(sqlite3 *db, const char *schema);

@@ -132,7 +132,7 @@ def answer_of(version, folding):
     return (FOLDINGS, CONDITION_FAULTS.index(name), int(code, 16), 0, 0), None
 
 
-def told_of(program, number, version, folding):
+def answered_by(program, number, version, folding):
     """What the program tells of a folding file beside a version; nothing where it died."""
     text = version.text.encode()
     try:
@@ -162,7 +162,7 @@ def judge_until(path, published, seconds, seed):
     with subprocess.Popen(list(map(str, words)), stdin=subprocess.PIPE, stdout=subprocess.PIPE) as program:
         while time.monotonic() < end:
             number, folding = drawn(chance, versions)
-            got, want = told_of(program, number, versions[number], folding), answer_of(versions[number], folding)
+            got, want = answered_by(program, number, versions[number], folding), answer_of(versions[number], folding)
             if got != want:
                 program.kill()
                 return count, (number, folding, got, want)
