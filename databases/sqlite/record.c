@@ -96,7 +96,7 @@ int use(sqlite3_context *call, connection *self, npss_handle *tables, int is_rec
     self->assigned = (sqlite3_int64)npss_count(tables).length;
     self->is_recorded = is_recorded;
     self->is_folded = has_foldings(tables);
-    take(self);
+    note_read(self);
     return 1;
 }
 

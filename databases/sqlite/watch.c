@@ -97,13 +97,13 @@ static int begins(sqlite3_vtab *at) {
 }
 
 static int commits(sqlite3_vtab *at) {
-    watch_of(at)->takes_part = watch_of(at)->taken = 0;
+    watch_of(at)->takes_part = watch_of(at)->read_depth = 0;
     return SQLITE_OK;
 }
 
 static int rolls_back(sqlite3_vtab *at) {
     watch *watched = watch_of(at);
-    if (watched->taken) watched->is_undone = 1;
+    if (watched->read_depth) watched->is_undone = 1;
     watched->undone++;
     return commits(at);
 }
@@ -119,13 +119,13 @@ static int saves(sqlite3_vtab *at, int number) {
 static int releases(sqlite3_vtab *at, int number) {
     watch *watched = watch_of(at);
     watched->depth = number;
-    if (watched->taken > number + 1) watched->taken = number + 1;
+    if (watched->read_depth > number + 1) watched->read_depth = number + 1;
     return SQLITE_OK;
 }
 
 static int rolls_back_to(sqlite3_vtab *at, int number) {
     watch *watched = watch_of(at);
-    if (watched->taken > number + 1) watched->is_undone = 1;
+    if (watched->read_depth > number + 1) watched->is_undone = 1;
     watched->undone++;
     watched->depth = number + 1;
     return SQLITE_OK;
@@ -149,9 +149,9 @@ int is_watched(connection *self) {
 }
 
 /* Remembers that the tables in use were read at this place of the transaction. */
-void take(connection *self) {
+void note_read(connection *self) {
     self->watch.is_undone = 0;
-    self->watch.taken = is_watched(self) ? self->watch.depth + 1 : 0;
+    self->watch.read_depth = is_watched(self) ? self->watch.depth + 1 : 0;
 }
 
 /* Whether a database may have been detached, or a change of a schema rolled back, since this was asked before: then SQLite makes each

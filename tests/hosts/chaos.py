@@ -284,8 +284,8 @@ class Chaos:
 
     def pauses(self):
         """How many seconds behind each end of whoever takes records one was taken again."""
-        taken = self.probe.taken
-        return [min(ended for begun, ended in taken if begun >= death) - death for death in self.servers.deaths if taken and taken[-1][0] >= death]
+        appends = self.probe.appends
+        return [min(ended for begun, ended in appends if begun >= death) - death for death in self.servers.deaths if appends and appends[-1][0] >= death]
 
     def judge_meanwhile(self):
         """The judge has to be silent while nodes work, end and are upgraded."""

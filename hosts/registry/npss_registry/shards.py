@@ -124,7 +124,7 @@ class Shard:
     def _redo_one(self, place: int, record: Record) -> None:
         if isinstance(record, Claim):
             if self._store.at(self.number, place):
-                self._take(place, record)
+                self._take_claim(place, record)
         elif isinstance(record, Forget):
             named = self._store.at(self.number, record.place)
             if named and named.ended == place:
@@ -235,13 +235,13 @@ class Shard:
 
     def _add(self, place: int, claim: Claim) -> Registration:
         """Registers a claim."""
-        refused = self._take(place, claim)
+        refused = self._take_claim(place, claim)
         new = Registration(place, claim.string, claim.key, claim.owner, refused, refused is not None, None, claim.caseless)
         self._store.register(self.number, new)
         self._count += 1
         return new
 
-    def _take(self, place: int, claim: Claim) -> Optional[str]:
+    def _take_claim(self, place: int, claim: Claim) -> Optional[str]:
         """Hands a claim's message to the node; why it is parked, where the node lacks a code point."""
         try:
             accepted = self.node.take(claim.message)
@@ -311,7 +311,7 @@ class Shard:
             if claim.string in self.node:
                 raise StoreError(f"{self._store.path}: it marks {claim.string!r} as parked, which its node keeps; see `npss-registry check`")
             self._examiner.claim(place, claim)
-            if self._take(place, claim) is None:
+            if self._take_claim(place, claim) is None:
                 self._store.unpark(self.number, place)
                 self._store.note(self.number, Event("taken", place, version))
         self.save()
