@@ -96,8 +96,8 @@ def make_wheel(release, prefix, proved, to, room):
     folder = facts_folder(release)
     files = {str(path.relative_to(room)): path.read_bytes() for path in sorted((room / "npss").rglob("*")) if path.is_file()}
     files.update({f"{folder}/{name}": text.encode() for name, text in {**described(release, tag), "PROVED": proved}.items()})
-    record = "".join(f"{name},sha256={digest(data)},{len(data)}\n" for name, data in files.items())
-    files[f"{folder}/RECORD"] = f"{record}{folder}/RECORD,,\n".encode()
+    record_lines = "".join(f"{name},sha256={digest(data)},{len(data)}\n" for name, data in files.items())
+    files[f"{folder}/RECORD"] = f"{record_lines}{folder}/RECORD,,\n".encode()
     path = to / f"npss-{release.packed}-{tag}.whl"
     when = time.gmtime(release.time)[:6]
     with zipfile.ZipFile(path, "w", zipfile.ZIP_DEFLATED) as packed:

@@ -68,24 +68,24 @@ class Long(Case):
         self.assertEqual(self.server.sql(f"SELECT npss_is_normalized({long} || '{MARKED}', 'nfd'), npss_is_normalized({long} || 'a\u0323\u0302', 'nfd')", base), "f|t")
 
 
-def record(code, category="Lo", order=0, mapping=""):
+def data_record(code, category="Lo", order=0, mapping=""):
     """A line of UnicodeData.txt."""
     return f"{code:04X};X;{category};{order};L;{mapping};;;;N;;;;;"
 
 
 def ascii_with(*others):
     """A data file of ASCII alone but for other records, which stand in the place of those of their code points."""
-    records = {code: record(code) for code in range(0x80)} | {int(other.partition(";")[0], 16): other for other in others}
-    return "".join(f"{records[code]}\n" for code in sorted(records))
+    data_records = {code: data_record(code) for code in range(0x80)} | {int(other.partition(";")[0], 16): other for other in others}
+    return "".join(f"{data_records[code]}\n" for code in sorted(data_records))
 
 
 # For each version that is made here its data file, whether ASCII is its own key in it under each form, and a text with its NFKC.
 MADE = {
     "plain": (ascii_with(), "t", "AB", "AB"),
-    "compatible": (ascii_with(record(0x41, mapping="<compat> 0062")), "f", "AB", "bB"),
-    "composing": (ascii_with(record(0x100, mapping="0041 0042")), "f", "AB", "\u0100"),
-    "marked": (ascii_with(record(0x41, "Mn", 230), record(0x42, "Mn", 220)), "f", "AB", "BA"),
-    "holed": (ascii_with().replace(f"{record(0x41)}\n", ""), "f", "B", "B"),
+    "compatible": (ascii_with(data_record(0x41, mapping="<compat> 0062")), "f", "AB", "bB"),
+    "composing": (ascii_with(data_record(0x100, mapping="0041 0042")), "f", "AB", "\u0100"),
+    "marked": (ascii_with(data_record(0x41, "Mn", 230), data_record(0x42, "Mn", 220)), "f", "AB", "BA"),
+    "holed": (ascii_with().replace(f"{data_record(0x41)}\n", ""), "f", "B", "B"),
 }
 
 

@@ -9,7 +9,7 @@ from npss_registry import records, snapshots
 from npss_registry.errors import LogBroken, LogEnded, LogTrimmed, NotOneChain, StoreError
 from npss_registry.examine import Examiner
 from npss_registry.logs import PIECE, Log, may_go_on, record_at
-from npss_registry.records import Claim, End, Forget, Name, Record, Snapshot, SnapshotSum
+from npss_registry.records import Claim, End, Forget, Name, RegistryRecord, Snapshot, SnapshotSum
 from npss_registry.store import Event, Registration, Store
 
 # An image is saved when so many records were read behind the last one.
@@ -117,11 +117,11 @@ class Shard:
         self._sum = total
         self._established = total, image_total
 
-    def _record(self, place: int, body: bytes, first: bool = False) -> Record:
+    def _record(self, place: int, body: bytes, first: bool = False) -> RegistryRecord:
         """The record of bytes at a place, which was examined."""
         return self._examiner.record(place, body, first)
 
-    def _redo_one(self, place: int, record: Record) -> None:
+    def _redo_one(self, place: int, record: RegistryRecord) -> None:
         if isinstance(record, Claim):
             if self._store.at(self.number, place):
                 self._take_claim(place, record)
@@ -208,7 +208,7 @@ class Shard:
         if self.end is not None:
             raise LogEnded(*self.end)
 
-    def _apply_one(self, place: int, record: Record) -> Outcome:
+    def _apply_one(self, place: int, record: RegistryRecord) -> Outcome:
         if isinstance(record, Claim):
             return self._claim(place, record)
         if isinstance(record, Forget):
