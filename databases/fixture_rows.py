@@ -44,24 +44,24 @@ def string_of(codes):
 
 def keys():
     """The rows of KEYS.txt that SQL can tell: no text has U+0000 or a surrogate."""
-    for head, string, told in split("KEYS.txt"):
-        words = told.split()
+    for head, string, answer in split("KEYS.txt"):
+        words = answer.split()
         refused = (words[1], int(words[-1])) if words[0] == "unassigned" else ()
-        yield Key(*head.split(), string_of(string), "" if refused else string_of(told), refused)
+        yield Key(*head.split(), string_of(string), "" if refused else string_of(answer), refused)
 
 
 def matches():
     """The rows of MATCHES.txt of assigned code points; `npss_caseless compare` refuses others, and a match doesn't."""
-    for head, left, right, told in split("MATCHES.txt"):
-        if not told.startswith("3"):
-            yield Match(*head.split(), string_of(left), string_of(right), told.startswith("0"))
+    for head, left, right, answer in split("MATCHES.txt"):
+        if not answer.startswith("3"):
+            yield Match(*head.split(), string_of(left), string_of(right), answer.startswith("0"))
 
 
 def audits():
     """Two versions, and what an audit of the second behind the first tells first."""
-    for head, *told in split("AUDITS.txt"):
+    for head, *rest in split("AUDITS.txt"):
         if len(head.split()) == 2:
-            yield (*head.split(), told[1].partition(",")[0])
+            yield (*head.split(), rest[1].partition(",")[0])
 
 
 def put_toy(folder, name, caseless=True):

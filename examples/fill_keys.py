@@ -110,9 +110,9 @@ def opened(address: str) -> Store:
 def answered(tables: Tables, form: str, caseless: bool, names: Sequence[str]) -> Iterator[str]:
     """For each name `=` and its key, or `!` and why it has none."""
     answers = tables.answers("".join(f"{name}\0" for name in names if "\0" not in name).encode(), form, b"\0", caseless).decode().split("\0")
-    told = iter(answers)
+    rest = iter(answers)
     for name in names:
-        yield next(told) if "\0" not in name else "!it holds U+0000, which ends a name here"
+        yield next(rest) if "\0" not in name else "!it holds U+0000, which ends a name here"
 
 
 def main() -> int:

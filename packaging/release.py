@@ -3,7 +3,7 @@
 
     packaging/release.py            prints the version, each place that tells another one, and what is wrong with the scripts of SQL
     packaging/release.py --write    puts these places right, and lists the scripts of SQL as released
-    packaging/release.py --told     prints how PROVED begins: the version and the commit
+    packaging/release.py --head     prints how PROVED begins: the version and the commit
     packaging/release.py --packed   prints the version of the packages
 
 The packages of a release have its version. Those of another commit have it with the commit's day and name behind, as
@@ -125,16 +125,16 @@ def this_release():
 
 def differing(version, write=False):
     """The places that tell another version; `write` puts them right."""
-    told = []
+    places = []
     for name, before, spelled in PLACES:
         path, wanted = ROOT / name, spelled(version)
         text = path.read_text(encoding="utf-8")
         changed, count = re.subn(rf"({before})[0-9.]+", rf"\g<1>{wanted}", text, count=1, flags=re.MULTILINE)
         if count == 0 or changed != text:
-            told.append(name)
+            places.append(name)
             if write and count:
                 path.write_text(changed, encoding="utf-8")
-    return told
+    return places
 
 
 def sum_of(name):
@@ -159,14 +159,14 @@ def versions_that_reach(version, scripts):
 
 def sql_faults():
     """What is wrong with the scripts of SQL, a line each: a released one was changed, or one leads nowhere."""
-    told = [f"{name} isn't as it was released: put what changes into npss--A--B.sql" for name, wanted in released_sums().items() if sum_of(name) != wanted]
+    faults = [f"{name} isn't as it was released: put what changes into npss--A--B.sql" for name, wanted in released_sums().items() if sum_of(name) != wanted]
     found = re.search(r"^default_version = '([^']+)'$", (SQL / "npss.control").read_text(encoding="utf-8"), re.MULTILINE)
     version = found[1] if found else ""
     scripts = [path.stem.split("--") for path in SQL.glob("npss--*.sql")]
     reach = versions_that_reach(version, scripts)
     if not any(words[1] in reach for words in scripts if len(words) == 2):
-        told.append(f"npss.control: no script makes version {version}")
-    return told + [f"no script leads from version {one} to {version}" for one in sorted({word for words in scripts for word in words[1:]} - reach)]
+        faults.append(f"npss.control: no script makes version {version}")
+    return faults + [f"no script leads from version {one} to {version}" for one in sorted({word for words in scripts for word in words[1:]} - reach)]
 
 
 def list_scripts():
@@ -179,22 +179,22 @@ def list_scripts():
 def main():
     write = sys.argv[1:] == ["--write"]
     version, _ = newest()
-    if sys.argv[1:] == ["--told"]:
+    if sys.argv[1:] == ["--head"]:
         print(f"npss {version}\ncommit {this_release().commit}")
         return 0
     if sys.argv[1:] == ["--packed"]:
         print(this_release().packed)
         return 0
     print(version)
-    told = differing(version, write)
-    for name in told:
+    places = differing(version, write)
+    for name in places:
         print(f"{'written' if write else 'tells another version'}: {name}")
     faults = sql_faults()
     for fault in faults:
         print(f"wrong: {fault}")
     if write and not faults:
         list_scripts()
-    return 1 if faults or (told and not write) else 0
+    return 1 if faults or (places and not write) else 0
 
 
 if __name__ == "__main__":

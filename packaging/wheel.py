@@ -50,10 +50,10 @@ def look_at(module):
     others = [name for name in wanted if "@" not in name and not re.match(r"_?Py|_ITM_|__gmon_start__", name)]
     dynamic = subprocess.run(["readelf", "-d", module], stdout=subprocess.PIPE, text=True, check=True).stdout
     libraries = set(re.findall(r"\(NEEDED\).*\[(.*)\]", dynamic)) - {"libc.so.6"}
-    for told, found in (("a newer glibc", newer), ("unstable names of Python", unstable), ("names of nobody", others),
+    for what, found in (("a newer glibc", newer), ("unstable names of Python", unstable), ("names of nobody", others),
                         ("other libraries", sorted(libraries))):
         if found:
-            raise NotPortable(f"{module.name} wants {told}: {' '.join(found)}")
+            raise NotPortable(f"{module.name} wants {what}: {' '.join(found)}")
     return sum(bool(re.match(r"_?Py", name)) for name in wanted)
 
 
@@ -74,11 +74,11 @@ def facts_folder(release):
 
 def metadata(release):
     """What tells Python of the module, however it is packed."""
-    told = (f"Metadata-Version: 2.1\nName: npss\nVersion: {release.packed}\nSummary: {SUMMARY}\n"
+    head = (f"Metadata-Version: 2.1\nName: npss\nVersion: {release.packed}\nSummary: {SUMMARY}\n"
             f"Requires-Python: >={PYTHON[0]}.{PYTHON[1]}\nClassifier: Operating System :: POSIX :: Linux\n"
             "Classifier: Typing :: Typed\nDescription-Content-Type: text/markdown\n\n")
     page = (ROOT / "docs" / "INSTALL.md").read_text(encoding="utf-8")
-    return told + page
+    return head + page
 
 
 def described(release, tag):
@@ -96,8 +96,8 @@ def make_wheel(release, prefix, proved, to, room):
     folder = facts_folder(release)
     files = {str(path.relative_to(room)): path.read_bytes() for path in sorted((room / "npss").rglob("*")) if path.is_file()}
     files.update({f"{folder}/{name}": text.encode() for name, text in {**described(release, tag), "PROVED": proved}.items()})
-    record = "".join(f"{name},sha256={digest(data)},{len(data)}\n" for name, data in files.items())
-    files[f"{folder}/RECORD"] = f"{record}{folder}/RECORD,,\n".encode()
+    record_lines = "".join(f"{name},sha256={digest(data)},{len(data)}\n" for name, data in files.items())
+    files[f"{folder}/RECORD"] = f"{record_lines}{folder}/RECORD,,\n".encode()
     path = to / f"npss-{release.packed}-{tag}.whl"
     when = time.gmtime(release.time)[:6]
     with zipfile.ZipFile(path, "w", zipfile.ZIP_DEFLATED) as packed:

@@ -62,7 +62,7 @@ def run(program, words, stdin=b"", folder=None, **options):
     return done.returncode, done.stdout or b"", done.stderr or b""
 
 
-def told(tally, name, words, **options):
+def output_of(tally, name, words, **options):
     """What a command writes, which has to end with status 0."""
     done = subprocess.run(list(map(str, words)), stdin=subprocess.DEVNULL, stdout=subprocess.PIPE, stderr=subprocess.STDOUT, text=True,
                           check=False, **options)

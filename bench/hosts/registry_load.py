@@ -27,8 +27,8 @@ class Rate(NamedTuple):
         return f"{self.second:,.0f} ({self.median:.1f}, {self.late:.1f})"
 
 
-def request(port, path, told):
-    body = json.dumps(told).encode()
+def request(port, path, fields):
+    body = json.dumps(fields).encode()
     return (f"POST {path} HTTP/1.1\r\nHost: localhost\r\nAuthorization: Bearer {TOKEN}\r\nContent-Length: {len(body)}\r\n\r\n").encode() + body
 
 

@@ -40,9 +40,9 @@ class Dict:
         return field(name.encode()) + field(self.kept[name].encode())
 
     def take(self, message):
-        name, told = fields(message)
+        name, sent_key = fields(message)
         key = key_of(name)
-        if key != told:
+        if key != sent_key:
             raise ValueError(name)
         self.kept[name] = key
 
@@ -90,9 +90,9 @@ def rows(tables, names, runs):
     for name in names:
         filled.accept(name)
         plain.accept(name)
-    messages, told = ([one.message(name) for name in names] for one in (filled, plain))
+    messages, plain_messages = ([one.message(name) for name in names] for one in (filled, plain))
     took = {}
-    for which, make, sent, full in ((0, lambda: Node(tables), messages, filled), (1, Dict, told, plain)):
+    for which, make, sent, full in ((0, lambda: Node(tables), messages, filled), (1, Dict, plain_messages, plain)):
         image = full.image()
         restore = (lambda _: Node.restore(tables, image)) if which == 0 else (lambda _: Dict().restore(image))
         steps = (("accepted", fresh, lambda values: each(make().accept)(values)), ("taken", lambda: sent, lambda values: each(make().take)(values)),

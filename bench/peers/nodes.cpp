@@ -74,8 +74,8 @@ static std::string field(const std::string &from, size_t &at) {
 
 /* Keeps the name of a message where its key is right. */
 static void take(Map &map, const std::string &message, size_t &at) {
-    std::string name = field(message, at), told = field(message, at), key;
-    if (!key_of(name, key) || key != told) die("ICU: another key");
+    std::string name = field(message, at), sent_key = field(message, at), key;
+    if (!key_of(name, key) || key != sent_key) die("ICU: another key");
     map.emplace(std::move(name), std::move(key));
 }
 
@@ -109,7 +109,7 @@ int main(int count, char **words) {
     done(npss_open(&tables, bytes(data), data.size(), bytes(exclusions), exclusions.size()));
     auto fresh = [&](npss_node *node) { done(npss_node_new(node, &tables, NPSS_NFC, ROOM)); };
     Map map, other;
-    std::vector<std::string> messages(all.size()), told(all.size());
+    std::vector<std::string> messages(all.size()), plain_messages(all.size());
     std::vector<uint8_t> image(1 << 23);
     std::string saved;
     uint8_t room[64];
@@ -127,12 +127,12 @@ int main(int count, char **words) {
         messages[i].assign(reinterpret_cast<char *>(room), a.length);
         std::string key;
         key_of(all[i], key);
-        put(told[i], all[i]);
-        put(told[i], key);
-        if (messages[i].substr(1) != told[i]) die("another message");
+        put(plain_messages[i], all[i]);
+        put(plain_messages[i], key);
+        if (messages[i].substr(1) != plain_messages[i]) die("another message");
     }
     row("taken", timed(runs, [&] { fresh(&away); }, [&] { for (auto &one : messages) done(npss_node_take(&away, bytes(one), one.size())); }),
-        timed(runs, [&] { other = Map(); }, [&] { for (auto &one : told) { size_t at = 0; take(other, one, at); } }));
+        timed(runs, [&] { other = Map(); }, [&] { for (auto &one : plain_messages) { size_t at = 0; take(other, one, at); } }));
     row("saved", timed(runs, nothing, [&] { done(a = npss_node_image(&home, image.data(), image.size())); }),
         timed(runs, [&] { saved.clear(); }, [&] { for (auto &one : map) { put(saved, one.first); put(saved, one.second); } }));
     row("restored", timed(runs, [&] { npss_node_close(&away); }, [&] { done(npss_node_restore(&away, &tables, NPSS_NFC, ROOM, image.data(), a.length)); }),

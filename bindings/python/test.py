@@ -296,10 +296,10 @@ class Caseless(unittest.TestCase):
     def test_matches(self):
         matches = rows("MATCHES.txt")
         self.assertEqual(len(matches), 52)
-        for head, left, right, told in matches:
+        for head, left, right, answer in matches:
             version, form = head.split()
-            if told[0] != "3":  # `compare` refuses what isn't assigned, which is taken here
-                self.assertEqual(self.versions[version].caseless_match(text_of(left), text_of(right), form.startswith("nfk")), told[0] == "0", head)
+            if answer[0] != "3":  # `compare` refuses what isn't assigned, which is taken here
+                self.assertEqual(self.versions[version].caseless_match(text_of(left), text_of(right), form.startswith("nfk")), answer[0] == "0", head)
         self.assertTrue(self.tables.caseless_match("A\U00016d67", "a\U00016d67"))
         self.assertFalse(self.tables.caseless_match(left="A\U00016d67", right="A", compatible=True))
         self.assertRaises(UnicodeEncodeError, self.tables.caseless_match, "\ud800", "a")
@@ -331,14 +331,14 @@ class Caseless(unittest.TestCase):
     def test_files_at_the_edges(self):
         edges = rows("edges/EXPECTED.txt")
         self.assertEqual(len(edges), 104)
-        for name, data, _, told in edges:
+        for name, data, _, answer in edges:
             files = (V1[0] if data == "v1" else CASELESS / "edges" / f"{data}.data", V1[1], CASELESS / "edges" / name)
-            if not told.startswith("version"):
-                self.assertEqual(Tables.open(*files).key("A", caseless=True), text_of(told), name)
+            if not answer.startswith("version"):
+                self.assertEqual(Tables.open(*files).key("A", caseless=True), text_of(answer), name)
                 continue
             with self.assertRaises(BadTables) as caught:
                 Tables.open(*files)
-            self.assertEqual(f"version 0 {caught.exception}", f"{told}, in {str(files[2])!r}", name)
+            self.assertEqual(f"version 0 {caught.exception}", f"{answer}, in {str(files[2])!r}", name)
             self.assertEqual((caught.exception.file, caught.exception.path), ("folding", files[2]))
             self.assertNotEqual(caught.exception.line is None, caught.exception.code is None)
 
@@ -396,11 +396,11 @@ class Caseless(unittest.TestCase):
         versions = {name: with_foldings(files[name], name) for name in files}
         audits = [row for row in rows("AUDITS.txt") if len(row[0].split()) == 2]
         self.assertEqual(len(audits), 9)
-        for head, status, told in audits:
+        for head, status, answer in audits:
             old, new = (versions[name] for name in head.split())
             self.assertEqual(new.extends(old, caseless=True), status == "0", head)
             first = new.first_break(old, True)
-            self.assertEqual("extends" if first is None else f"{first.kind} {first.code:04X}", told.split(", ")[0], head)
+            self.assertEqual("extends" if first is None else f"{first.kind} {first.code:04X}", answer.split(", ")[0], head)
         self.assertTrue(versions["changed"].extends(older=versions["v1"]))  # by two files
         bare = Tables.open(*V2)
         for call in (lambda: bare.extends(versions["v1"], caseless=True), lambda: versions["v2"].first_break(Tables.open(*V1), caseless=True),
@@ -454,10 +454,10 @@ class Codes(unittest.TestCase):
         self.tables = Tables.open(*V1)
 
     def test_properties(self):
-        for code, told in ((0x61, (True, 0, None, False)), ("\u0323", (True, 220, None, False)), (0x1EAD, (True, 0, "canonical", False)),
+        for code, facts in ((0x61, (True, 0, None, False)), ("\u0323", (True, 220, None, False)), (0x1EAD, (True, 0, "canonical", False)),
                            ("\ufb01", (True, 0, "compatibility", False)), (0x958, (True, 0, "canonical", True)), (0xAC01, (True, 0, "canonical", False)),
                            (0x10FFFF, (False, 0, None, False)), (0xD800, (False, 0, None, False)), (0, (False, 0, None, False))):
-            self.assertEqual(tuple(self.tables.property(code)), told, code)
+            self.assertEqual(tuple(self.tables.property(code)), facts, code)
         self.assertEqual(self.tables.property("a").combining_class, 0)
         for wrong in (-1, 0x110000, 2 ** 70, "ab", ""):
             self.assertRaises(ValueError, self.tables.property, wrong)
@@ -479,9 +479,9 @@ class Codes(unittest.TestCase):
 
     def test_the_first_unassigned(self):
         self.assertIsNone(self.tables.first_unassigned(MARKED))
-        told = self.tables.first_unassigned("\u1ead\U00016d67")
-        self.assertIsInstance(told, Unassigned)
-        self.assertEqual((told.code, told.place, told.index), (0x16D67, 3, 1))
+        first = self.tables.first_unassigned("\u1ead\U00016d67")
+        self.assertIsInstance(first, Unassigned)
+        self.assertEqual((first.code, first.place, first.index), (0x16D67, 3, 1))
 
 
 class Streams(unittest.TestCase):
@@ -628,12 +628,12 @@ class Nodes(unittest.TestCase):
         self.assertIsNone(self.node.message("a\u0302"))
         self.assertIsNone(self.node.message(""))
         self.node.accept("a\u0302")
-        told = self.node.message("a\u0302")
-        self.assertEqual(told, message(b"C", "a\u0302", "\u00e2"))
+        sent = self.node.message("a\u0302")
+        self.assertEqual(sent, message(b"C", "a\u0302", "\u00e2"))
         away = Node(self.new, room=4)
-        self.assertIs(away.take(told), Accepted.KEPT)
-        self.assertIs(away.take(bytearray(told)), Accepted.KNOWN)
-        self.assertIs(away.take(memoryview(told)), Accepted.KNOWN)
+        self.assertIs(away.take(sent), Accepted.KEPT)
+        self.assertIs(away.take(bytearray(sent)), Accepted.KNOWN)
+        self.assertIs(away.take(memoryview(sent)), Accepted.KNOWN)
         self.assertEqual(self.state(away), self.state())
         for wrong in ("text", [67], None):
             self.assertRaises(TypeError, away.take, wrong)
@@ -665,8 +665,8 @@ class Nodes(unittest.TestCase):
 
     def image(self, *entries, form=b"C", needs=17660):
         """An image of the second layout."""
-        told = b"".join(field(string.encode()) + (b"\0" if string == key else b"\1" + field(key.encode())) for string, key in entries)
-        return b"NPS2" + form + needs.to_bytes(4, "big") + len(entries).to_bytes(4, "big") + told
+        rest = b"".join(field(string.encode()) + (b"\0" if string == key else b"\1" + field(key.encode())) for string, key in entries)
+        return b"NPS2" + form + needs.to_bytes(4, "big") + len(entries).to_bytes(4, "big") + rest
 
     def test_images(self):
         self.node.accept("a\u0302")

@@ -298,7 +298,7 @@ report_unfolded(int level)
 Version *
 version_with_foldings(FunctionCallInfo call)
 {
-	static TimestampTz told = 0;
+	static TimestampTz warned = 0;
 	Version    *version = version_in_force(call);
 
 	if (version == NULL || likely(known.folds))
@@ -309,9 +309,9 @@ version_with_foldings(FunctionCallInfo call)
 		return version;
 	if (!is_analyzing())
 		report_unfolded(ERROR);
-	if (told != GetCurrentStatementStartTimestamp())
+	if (warned != GetCurrentStatementStartTimestamp())
 		report_unfolded(WARNING);
-	told = GetCurrentStatementStartTimestamp();
+	warned = GetCurrentStatementStartTimestamp();
 	return NULL;
 }
 
@@ -326,14 +326,14 @@ label_not_here(void)
 bool
 lags_in_analyze(void)
 {
-	static TimestampTz told = 0;
+	static TimestampTz warned = 0;
 
 	if (!known.lags || !is_analyzing())
 		return false;
-	if (told != GetCurrentStatementStartTimestamp())
+	if (warned != GetCurrentStatementStartTimestamp())
 		ereport(WARNING,
 				(errmsg("npss: ANALYZE leaves out names that are new in Unicode version \"%s\", whose files are not here", known.label)));
-	told = GetCurrentStatementStartTimestamp();
+	warned = GetCurrentStatementStartTimestamp();
 	return true;
 }
 

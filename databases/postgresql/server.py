@@ -112,16 +112,16 @@ class Server:
                              stderr=subprocess.PIPE, text=True, env=environment, cwd="/", check=False, timeout=300)
         if ran.returncode:
             raise SqlError(ran.stderr)
-        self.told = ran.stderr
+        self.stderr = ran.stderr
         return ran.stdout.strip()
 
 
 class SqlError(Exception):
     """A statement failed; `state` is its SQLSTATE."""
 
-    def __init__(self, told):
-        super().__init__(told)
-        words = told.partition("ERROR:")[2].split() or told.partition("FATAL:")[2].split()
+    def __init__(self, stderr):
+        super().__init__(stderr)
+        words = stderr.partition("ERROR:")[2].split() or stderr.partition("FATAL:")[2].split()
         self.state = words[0].rstrip(":") if words else ""
 
 

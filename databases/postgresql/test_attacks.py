@@ -2,7 +2,6 @@
 
 import os
 import shutil
-import time
 import unittest
 from pathlib import Path
 
@@ -66,8 +65,8 @@ class Attacks(Case):
         data.unlink()
         for make, state in ways:
             make(data)
-            told = self.refused(state, "SELECT npss_raise('odd')", base)
-            self.assertIn("is not a file of at most 16777216 bytes" if state == "F0000" else "could not read file", told)
+            refusal = self.refused(state, "SELECT npss_raise('odd')", base)
+            self.assertIn("is not a file of at most 16777216 bytes" if state == "F0000" else "could not read file", refusal)
             (data.rmdir if make is os.mkdir else data.unlink)()
 
     def test_texts_that_are_not_utf8(self):
@@ -79,8 +78,8 @@ class Attacks(Case):
             text = f"decode({digits}, 'hex')::text"
             for call in ("npss_nfc({0})", "npss_normalize({0})", "npss_try_key({0})", "npss_is_normalized({0})", "npss_first_unassigned({0})",
                          "npss_equivalent({0}, 'a')", "npss_equivalent('a', {0})"):
-                told = self.refused("22021", f"SELECT {call.format(text)} IS NULL", base)
-                self.assertIn(f"It is up to byte {place}.", told)
+                refusal = self.refused("22021", f"SELECT {call.format(text)} IS NULL", base)
+                self.assertIn(f"It is up to byte {place}.", refusal)
         for digits, length in (("'610062'", 3), (f"{long} || '00' || {long}", 3_000_001)):
             self.assertEqual(self.server.sql(f"SELECT npss_nfc('{MARKED}'), octet_length(npss_nfc(decode({digits}, 'hex')::text)), "
                                              f"npss_first_unassigned(decode({digits}, 'hex')::text) IS NULL", base), f"\u1ead|{length}|t")
@@ -114,8 +113,8 @@ class Attacks(Case):
         self.assertIn("CompositionExclusions.txt, line 1: BadCode", self.refused("F0000", setting, base))
         copied(folder, {"15.0": VERSIONS / "15.0"})
         self.server.sql(setting, base)
-        self.assertIn('WARNING:  F0000: npss: the files of Unicode version "faulty" are faulty', self.server.told)
-        self.assertIn('uses Unicode version "15.0"', self.server.told)
+        self.assertIn('WARNING:  F0000: npss: the files of Unicode version "faulty" are faulty', self.server.stderr)
+        self.assertIn('uses Unicode version "15.0"', self.server.stderr)
         self.assertIn("Put UnicodeData.txt and CompositionExclusions.txt into a folder", self.refused("58P01", "SELECT npss_raise('16.0')", base))
 
     def test_other_encodings(self):
@@ -128,11 +127,11 @@ class Attacks(Case):
         self.addCleanup(shutil.rmtree, broken)
         data = broken / FILES[0]
         text = data.read_text()
-        for old, new, told in (("0323;COMBINING DOT BELOW;Mn;220", "0323;COMBINING DOT BELOW;Mn;221", "ClassChanged 0323"),
+        for old, new, first in (("0323;COMBINING DOT BELOW;Mn;220", "0323;COMBINING DOT BELOW;Mn;221", "ClassChanged 0323"),
                                ("\n0450;", "\n# 0450;", "Lost 0450")):
             data.write_text(text.replace(old, new, 1))
-            self.assertIn(told, self.refused("55000", "SELECT npss_raise('broken')", base))
-            self.assertEqual(self.server.sql("SELECT npss_audit('broken')", base), told)
+            self.assertIn(first, self.refused("55000", "SELECT npss_raise('broken')", base))
+            self.assertEqual(self.server.sql("SELECT npss_audit('broken')", base), first)
 
 
 class Missing(Case):
@@ -149,7 +148,7 @@ class Missing(Case):
             self.assertEqual(self.server.sql("SELECT npss_nfc('admin'), npss_normalize('admin', 'nfkd')", base), "admin|admin")
             self.refused("58P01", f"SELECT npss_nfc('{MARKED}')", base)
             self.server.sql("ANALYZE account", base)
-            self.assertIn("WARNING", self.server.told)
+            self.assertIn("WARNING", self.server.stderr)
             self.server.sql("VACUUM ANALYZE account", base)
         finally:
             away.rename(self.versions)

@@ -38,36 +38,36 @@ class Bounds(Case):
     def test_a_comparison_ends_where_one_text_is_long(self):
         # The short text is made eleven times as long. What stands behind the comparison isn't reached, and shows where it ended.
         base = self.base("compared", "15.0")
-        self.server.sql("CREATE SEQUENCE told; CREATE TABLE pair AS SELECT repeat(letter, 340000) AS short, repeat(npss_nfkd(letter), 340000) AS long "
+        self.server.sql("CREATE SEQUENCE calls; CREATE TABLE pair AS SELECT repeat(letter, 340000) AS short, repeat(npss_nfkd(letter), 340000) AS long "
                         "FROM (VALUES ('\ufdfa')) AS of (letter)", base)
         for pair in ("short, long", "long, short"):
             session = self.session(base)
-            session.ask("SELECT npss_nfc('\u1ead'), nextval('told')")
-            before = self.server.sql("SELECT last_value FROM told", base)
+            session.ask("SELECT npss_nfc('\u1ead'), nextval('calls')")
+            before = self.server.sql("SELECT last_value FROM calls", base)
             own = self.spent(session, "SELECT short < long FROM pair")[0]
-            whole, told = self.spent(session, f"SELECT npss_equivalent({pair}, 'nfkd') FROM pair")
-            self.assertEqual(told, "t")
+            whole, answer = self.spent(session, f"SELECT npss_equivalent({pair}, 'nfkd') FROM pair")
+            self.assertEqual(answer, "t")
             session.ask(f"SET statement_timeout = {max(1, round(1000 * (own + (whole - own) / 8)))}")
-            self.assertIn("57014", session.ask(f"SELECT npss_equivalent({pair}, 'nfkd') AND nextval('told') > 0 FROM pair"))
-            self.assertEqual(self.server.sql("SELECT last_value FROM told", base), before)
+            self.assertIn("57014", session.ask(f"SELECT npss_equivalent({pair}, 'nfkd') AND nextval('calls') > 0 FROM pair"))
+            self.assertEqual(self.server.sql("SELECT last_value FROM calls", base), before)
 
     def ends_early(self, session, text, before=None):
         """A timeout ends the statement before the middle of what it takes behind its beginning, which PostgreSQL itself does."""
         session.ask("SET statement_timeout = 0")
         own = self.spent(session, before)[0] if before else 0
-        whole, told = self.spent(session, text)
-        self.assertNotIn("ERROR", told)
+        whole, answer = self.spent(session, text)
+        self.assertNotIn("ERROR", answer)
         # No statement is done in less time than it takes of a processor, however busy the machine was.
         session.ask(f"SET statement_timeout = {max(1, round(1000 * (own + (whole - own) / 8)))}")
-        took, told = self.spent(session, text)
-        self.assertIn("57014", told)
+        took, answer = self.spent(session, text)
+        self.assertIn("57014", answer)
         self.assertLess(took, own + (whole - own) / 2, text)
 
     def spent(self, session, text):
         """How many seconds of a processor a statement takes, and what it answers."""
         before = self.processor_time(session)
-        told = session.ask(text)
-        return self.processor_time(session) - before, told
+        answer = session.ask(text)
+        return self.processor_time(session) - before, answer
 
     def processor_time(self, session):
         """The seconds of a processor that a session's process has had."""
@@ -97,8 +97,8 @@ class Bounds(Case):
     def test_what_is_made_is_too_long(self):
         # Each sign is made eleven times as long.
         base = self.base("longest", "15.0")
-        told = self.refused("54000", "SELECT npss_nfkd(repeat('\ufdfa', 33000000))", base)
-        self.assertIn("the text is too long", told)
+        refusal = self.refused("54000", "SELECT npss_nfkd(repeat('\ufdfa', 33000000))", base)
+        self.assertIn("the text is too long", refusal)
 
     def used(self, session):
         """The bytes that a session's process has mapped, and those of them that are in memory."""
@@ -125,8 +125,8 @@ class Bounds(Case):
             session = self.session(base)
             session.ask("SELECT npss_nfc('a')")
             run(["prlimit", "--pid", session.pid, f"--as={self.used(session)[0] + room}:"])
-            told = session.ask(f"SELECT npss_nfc('{MARKED}') = '\u1ead'")
-            ends.add(told if told == "t" else re.search(r"\d{5}", told)[0])
+            answer = session.ask(f"SELECT npss_nfc('{MARKED}') = '\u1ead'")
+            ends.add(answer if answer == "t" else re.search(r"\d{5}", answer)[0])
             run(["prlimit", "--pid", session.pid, "--as=unlimited:"])
             self.assertEqual(session.ask(f"SELECT npss_nfc('{MARKED}') = '\u1ead'"), "t")
         self.assertEqual(ends, {"t", "53200"})
@@ -139,8 +139,8 @@ class Bounds(Case):
         ends = set()
         for room in range(1_000_000, 40_000_000, 3_000_000):
             run(["prlimit", "--pid", session.pid, f"--as={used + room}:"])
-            told = session.ask("SELECT length(npss_nfd(repeat('\u1ead', 900000)));")
-            ends.add("made" if told == "2700000" else re.search(r"\d{5}", told)[0])
+            answer = session.ask("SELECT length(npss_nfd(repeat('\u1ead', 900000)));")
+            ends.add("made" if answer == "2700000" else re.search(r"\d{5}", answer)[0])
             self.assertEqual(session.ask(f"SELECT npss_nfc('{MARKED}') = '\u1ead';"), "t")
         self.assertLessEqual(ends, {"made", "53200"})
         self.assertIn("53200", ends)
@@ -178,10 +178,10 @@ class Memory(Case):
         statements += [f"SELECT length(npss_caseless_nfc(repeat('X', {length - 2}) || '\u00cb'))" for length in (*range(65_534, 65_550), 100_000)]
         # Streams that end at an error, and versions that end with a call.
         statements += ["SELECT npss_normalize(decode(repeat('61', 1500000) || 'ff', 'hex')::text)", "SELECT npss_audit('14.0')"] * 4
-        told = self.folder / "valgrind"
-        told.mkdir()
-        own(told)
-        words = ["valgrind", "-q", "--leak-check=full", "--show-leak-kinds=definite", f"--log-file={told}/log", "--num-callers=20",
+        room = self.folder / "valgrind"
+        room.mkdir()
+        own(room)
+        words = ["valgrind", "-q", "--leak-check=full", "--show-leak-kinds=definite", f"--log-file={room}/log", "--num-callers=20",
                  self.programs / "postgres", "--single", "-D", self.server.data, base]
         try:
             ran = subprocess.run(words_as_user(words), input="\n".join(statements) + "\n", stdout=subprocess.PIPE, stderr=subprocess.STDOUT, text=True, cwd="/",
@@ -191,5 +191,5 @@ class Memory(Case):
         self.assertEqual(ran.returncode, 0, ran.stdout[-2000:])
         self.assertIn("\u1ead", ran.stdout)
         self.assertIn('length = "65548"', ran.stdout)
-        errors = re.split(r"\n==\d+== \n", (told / "log").read_text())
+        errors = re.split(r"\n==\d+== \n", (room / "log").read_text())
         self.assertEqual([error for error in errors if "npss" in error], [])

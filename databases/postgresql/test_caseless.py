@@ -21,7 +21,7 @@ class Caseless(Case):
             fixture_rows.put_toy(cls.versions / name, name)
         copied(cls.versions, {"bare": VERSIONS / "15.0"})
 
-    def told(self, base, calls):
+    def answers(self, base, calls):
         """What each call answers, as the code points of it; - for the empty text."""
         asked = "\n".join(f"SELECT coalesce(nullif(encode(convert_to({call}, 'UTF8'), 'hex'), ''), '-');" for call in calls)
         return [bytes.fromhex(line).decode() if line != "-" else "" for line in self.server.sql(asked, base).splitlines()]
@@ -34,11 +34,11 @@ class Caseless(Case):
             made = [row for row in rows if row.version == version and not row.refused]
             for shape in ("npss_caseless_{form}({text})", "npss_caseless_key({text}, upper('{form}'))", "npss_try_caseless_key({text}, '{form}')"):
                 calls = [shape.format(form=row.form, text=self.quoted(row.string)) for row in made]
-                self.assertEqual(self.told(base, calls), [row.key for row in made], shape)
+                self.assertEqual(self.answers(base, calls), [row.key for row in made], shape)
             for row in (row for row in rows if row.version == version and row.refused):
-                told = self.refused("22021", f"SELECT npss_caseless_{row.form}({self.quoted(row.string)})", base)
-                self.assertIn(f'code point U+{row.refused[0]} is not assigned in Unicode version "{version}"', told)
-                self.assertIn(f"at byte {row.refused[1]}.", told)
+                refusal = self.refused("22021", f"SELECT npss_caseless_{row.form}({self.quoted(row.string)})", base)
+                self.assertIn(f'code point U+{row.refused[0]} is not assigned in Unicode version "{version}"', refusal)
+                self.assertIn(f"at byte {row.refused[1]}.", refusal)
                 self.assertEqual(self.server.sql(f"SELECT npss_try_caseless_key({self.quoted(row.string)}, '{row.form}') IS NULL", base), "t")
 
     def test_matches_of_the_fixtures(self):
@@ -60,17 +60,17 @@ class Caseless(Case):
 
     def test_matches_take_what_is_unassigned(self):
         base = self.base("unassigned", "13.0")
-        for left, right, told in ((CAPITAL, CAPITAL, "t|t"), (CAPITAL, SMALL, "f|f"), ("\u2121\ufdd0", "TEL\ufdd0", "f|t"), ("Zo\u00cb", "zoe\u0308", "t|t")):
+        for left, right, wanted in ((CAPITAL, CAPITAL, "t|t"), (CAPITAL, SMALL, "f|f"), ("\u2121\ufdd0", "TEL\ufdd0", "f|t"), ("Zo\u00cb", "zoe\u0308", "t|t")):
             for more in ("", " || repeat('x', 1100000)"):
                 pair = f"'{left}'{more}, '{right}'{more}"
-                self.assertEqual(self.server.sql(f"SELECT npss_caseless_match({pair}), npss_caseless_match({pair}, 'nfkc')", base), told)
+                self.assertEqual(self.server.sql(f"SELECT npss_caseless_match({pair}), npss_caseless_match({pair}, 'nfkc')", base), wanted)
 
     def test_each_name_is_that_of_python(self):
         base = self.base("each", "15.0")
         known = [chr(code) for code in range(1, 0x110000) if unicodedata.category(chr(code)) not in ("Cn", "Cs")]
         texts = ["".join(known[at:at + 100]) for at in range(0, len(known), 100)]
         for form in fixture_rows.FORMS:
-            self.assertEqual(self.told(base, [f"npss_caseless_{form}({self.quoted(text)})" for text in texts]), [caseless(form, text) for text in texts])
+            self.assertEqual(self.answers(base, [f"npss_caseless_{form}({self.quoted(text)})" for text in texts]), [caseless(form, text) for text in texts])
 
     def test_names_that_fold_alike_are_one_account(self):
         base = self.base("accounts", "15.0")
@@ -123,8 +123,8 @@ class Caseless(Case):
             self.assertEqual(self.server.sql("SELECT bt_index_check('account_key', true)", base), "")
         self.assertIn("23505", beside.ask(f"INSERT INTO account VALUES ('{SMALL}')"))
         # Python knows the code points of 14.0.
-        told = self.server.sql("SELECT encode(convert_to(name, 'UTF8'), 'hex'), encode(convert_to(npss_caseless_nfkc(name), 'UTF8'), 'hex') FROM kept", base)
-        pairs = [[bytes.fromhex(word).decode() for word in line.split("|")] for line in told.splitlines()]
+        answer = self.server.sql("SELECT encode(convert_to(name, 'UTF8'), 'hex'), encode(convert_to(npss_caseless_nfkc(name), 'UTF8'), 'hex') FROM kept", base)
+        pairs = [[bytes.fromhex(word).decode() for word in line.split("|")] for line in answer.splitlines()]
         self.assertEqual([key for _, key in pairs], [caseless("nfkc", name) for name, _ in pairs])
         self.assertEqual(beside.ask("SELECT count(*) FROM pg_backend_memory_contexts WHERE name = 'npss version'"), "1")
 
@@ -137,14 +137,14 @@ class Caseless(Case):
         self.refused("55000", "INSERT INTO npss_record (label, folding) VALUES ('bare', repeat('0', 64))", base)
 
     def test_foldings_that_are_changed(self):
-        for old, new, told in fixture_rows.audits():
+        for old, new, first in fixture_rows.audits():
             base = self.base("changed", old)
-            self.assertEqual(self.server.sql(f"SELECT npss_audit('{new}')", base), told, (old, new))
-            if told.startswith("FoldingChanged") and (old, new) == ("v1", "changed"):
-                self.assertIn(f"First break: {told}.", self.refused("55000", f"SELECT npss_raise('{new}')", base))
-            elif told.startswith("FoldingChanged"):
+            self.assertEqual(self.server.sql(f"SELECT npss_audit('{new}')", base), first, (old, new))
+            if first.startswith("FoldingChanged") and (old, new) == ("v1", "changed"):
+                self.assertIn(f"First break: {first}.", self.refused("55000", f"SELECT npss_raise('{new}')", base))
+            elif first.startswith("FoldingChanged"):
                 self.refused("55000", f"SELECT npss_raise('{new}')", base)
-            elif told == "extends":
+            elif first == "extends":
                 self.server.sql(f"SELECT npss_raise('{new}')", base)
         # The first two files of `changed` are those of v2: another CaseFolding.txt of the same version.
         self.assertIn('the CaseFolding.txt of Unicode version "v2" is not the one that was recorded', self.refused("55000", "SELECT npss_raise('changed')", self.base("changed", "v2")))
@@ -152,13 +152,13 @@ class Caseless(Case):
     def test_faulty_foldings(self):
         base = self.base("faulty", "13.0")
         folder = copied(self.versions, {"odd": CASED / "15.0"}) / "odd"
-        for content, told in ((b"0041; X; 0061;\n", "CaseFolding.txt, line 1: BadStatus"), (b"", "The three files together: NotFolded at code point U+0041"),
+        for content, why in ((b"0041; X; 0061;\n", "CaseFolding.txt, line 1: BadStatus"), (b"", "The three files together: NotFolded at code point U+0041"),
                               ((CASED / "13.0" / FOLDING).read_bytes(), "The three files together: NotFolded at code point U+2C2F"),
                               (b"\n" * 16_777_217, "is not a file of at most 16777216 bytes")):
             (folder / FOLDING).write_bytes(content)
             for call in ("npss_raise", "npss_audit"):
-                self.assertIn(told, self.refused("F0000", f"SELECT {call}('odd')", base))
-            self.assertIn(told, self.server.sql("SELECT * FROM npss_ready('odd')", base))
+                self.assertIn(why, self.refused("F0000", f"SELECT {call}('odd')", base))
+            self.assertIn(why, self.server.sql("SELECT * FROM npss_ready('odd')", base))
         (folder / FOLDING).unlink()
 
 
@@ -189,15 +189,15 @@ class LongCaseless(Case):
         self.server.sql("CREATE CAST (bytea AS text) WITHOUT FUNCTION", base)
         for digits, place in (("repeat('41', 1500000) || 'ff'", 1_500_000), ("'4142ff'", 2)):
             for call in ("npss_caseless_nfc({0})", "npss_try_caseless_key({0})", "npss_caseless_match({0}, 'a')", "npss_caseless_match('a', {0})"):
-                told = self.refused("22021", f"SELECT {call.format(f'decode({digits}, $$hex$$)::text')} IS NULL", base)
-                self.assertIn(f"It is up to byte {place}.", told)
+                refusal = self.refused("22021", f"SELECT {call.format(f'decode({digits}, $$hex$$)::text')} IS NULL", base)
+                self.assertIn(f"It is up to byte {place}.", refusal)
 
     def test_matches_of_long_texts(self):
         base = self.base("matches", "15.0")
         long = "repeat('\u1e9e', 400000)"
-        for left, right, told in (("'a'", "'B'", "f|f"), ("'a'", "'A'", "t|t"), ("'\u2121'", "'TEL'", "f|t"), ("'\u00cb'", "'e\u0308'", "t|t")):
+        for left, right, wanted in (("'a'", "'B'", "f|f"), ("'a'", "'A'", "t|t"), ("'\u2121'", "'TEL'", "f|t"), ("'\u00cb'", "'e\u0308'", "t|t")):
             self.assertEqual(self.server.sql(f"SELECT npss_caseless_match({long} || {left}, repeat('SS', 400000) || {right}), "
-                                             f"npss_caseless_match({long} || {left}, repeat('SS', 400000) || {right}, 'nfkd')", base), told)
+                                             f"npss_caseless_match({long} || {left}, repeat('SS', 400000) || {right}, 'nfkd')", base), wanted)
 
     def test_keys_of_shorter_texts_around_the_room(self):
         base = self.base("rooms", "15.0")

@@ -75,15 +75,15 @@ class Extension(Case):
         # Names that PostgreSQL 15.0 has. One that is new here has to be looked up there.
         allowed = set((HERE / "wanted").read_text(encoding="utf-8").split())
         library = Path(self.programs).parent / "lib" / "npss.so"
-        told = subprocess.run(["nm", "-D", "--undefined-only", library], stdout=subprocess.PIPE, text=True, check=True).stdout
-        wanted = {line.split()[-1] for line in told.splitlines() if "@" not in line}
+        output = subprocess.run(["nm", "-D", "--undefined-only", library], stdout=subprocess.PIPE, text=True, check=True).stdout
+        wanted = {line.split()[-1] for line in output.splitlines() if "@" not in line}
         self.assertEqual({name for name in wanted if not TOOLS.match(name)} - allowed, set())
 
     def test_functions_of_another_library(self):
         """PostgreSQL loads libraries so that one sees the names of those before. Ours calls its own functions all the same."""
         library = Path(self.programs).parent / "lib" / "npss.so"
-        told = subprocess.run(["nm", "-D", "--defined-only", library], stdout=subprocess.PIPE, text=True, check=True).stdout
-        names = [line.split()[-1] for line in told.splitlines() if line.split()[-2] == "T"]
+        output = subprocess.run(["nm", "-D", "--defined-only", library], stdout=subprocess.PIPE, text=True, check=True).stdout
+        names = [line.split()[-1] for line in output.splitlines() if line.split()[-2] == "T"]
         names = [name for name in names if not name.startswith(("npss_pg_", "pg_finfo_", "Pg_magic_func", "_PG_init"))]
         self.assertIn("keeps_ascii", names)
         source = self.folder / "other.c"

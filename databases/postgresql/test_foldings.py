@@ -29,13 +29,13 @@ class Apart(Case):
         """The foldings of the record, by labels from the least version."""
         return self.server.sql("SELECT label, coalesce(folding, 'none') FROM npss_record ORDER BY assigned", base).split()
 
-    def without(self, base, told="was recorded without CaseFolding.txt", server=None):
+    def without(self, base, why="was recorded without CaseFolding.txt", server=None):
         """Caseless keys are refused, and keys are made."""
         for call in CALLS:
             with self.assertRaises(SqlError) as caught:
                 (server or self.server).sql(f"SELECT {call}", base)
             self.assertEqual(caught.exception.state, "55000")
-            self.assertIn(told, str(caught.exception))
+            self.assertIn(why, str(caught.exception))
         self.assertEqual((server or self.server).sql(f"SELECT npss_nfc('{MARKED}')", base), "\u1ead")
 
 
@@ -223,11 +223,11 @@ class FoldingsAway(Apart):
         base = self.base("late", "13.0")
         versions = copied(self.folder / "late", {"13.0": CASED / "13.0"})
         standby = self.standby(base, versions)
-        self.server.sql("SELECT npss_raise('15.0'); CREATE TABLE told AS SELECT npss_caseless_nfkc('ZO\u00cb') AS key", base)
+        self.server.sql("SELECT npss_raise('15.0'); CREATE TABLE made AS SELECT npss_caseless_nfkc('ZO\u00cb') AS key", base)
         for _ in range(300):
-            if standby.sql("SELECT count(*) FROM pg_class WHERE relname = 'told'", base) == "1":
+            if standby.sql("SELECT count(*) FROM pg_class WHERE relname = 'made'", base) == "1":
                 break
-        self.assertEqual(standby.sql("SELECT key = npss_caseless_nfkc('zOe\u0308'), lags FROM told, npss_version()", base), "t|t")
+        self.assertEqual(standby.sql("SELECT key = npss_caseless_nfkc('zOe\u0308'), lags FROM made, npss_version()", base), "t|t")
         with self.assertRaises(SqlError) as caught:
             standby.sql("SELECT npss_caseless_nfkc('\u2c2f')", base)
         self.assertEqual(caught.exception.state, "22021")
@@ -241,13 +241,13 @@ class FoldingsAway(Apart):
         away = path.rename(self.folder / "away")
         try:
             self.server.sql("ANALYZE account", base)
-            self.assertEqual(self.server.told.count("WARNING"), 1, self.server.told)
+            self.assertEqual(self.server.stderr.count("WARNING"), 1, self.server.stderr)
             self.refused("55000", "INSERT INTO account VALUES ('C')", base)
             self.refused("55000", "REINDEX INDEX account_key", base)
         finally:
             away.rename(path)
         self.server.sql("ANALYZE account; INSERT INTO account VALUES ('C')", base)
-        self.assertEqual(self.server.told, "")
+        self.assertEqual(self.server.stderr, "")
 
 
 class FoldingsDumped(Apart):
@@ -295,9 +295,9 @@ class FoldingsDumped(Apart):
         # A fresh database has the foldings that are here, whatever the dump had.
         for version, labels in (("13.0", ["13.0", "14.0"]), ("14.0", ["14.0"]), ("15.0", ["14.0", "15.0"])):
             self.server.sql(dump, self.base("back"), f"-c npss.version={version}")
-            told = self.recorded("back")
-            self.assertEqual([line.partition("|")[0] for line in told], labels)
-            self.assertEqual(told[-1], f"{labels[-1]}|{digest_of(labels[-1])}")
+            recorded = self.recorded("back")
+            self.assertEqual([line.partition("|")[0] for line in recorded], labels)
+            self.assertEqual(recorded[-1], f"{labels[-1]}|{digest_of(labels[-1])}")
             self.assertEqual(self.server.sql("SELECT count(*), min(npss_caseless_nfc('A')) FROM account", "back"), "1|a")
 
     def test_a_dump_into_a_database_without_foldings(self):

@@ -43,9 +43,9 @@ class Following(Apart):
                 session = self.session(base)
                 session.ask("SET npss.version = '13.0'; SET client_min_messages = warning")
                 self.put("13.0", first)
-                told = session.ask(f"{begin}; {brings}; {end}")
+                answer = session.ask(f"{begin}; {brings}; {end}")
                 self.put("13.0", second)
-                self.assertEqual(f"{told}\n" + session.ask(f"{brings}; COMMIT"), keys, (begin, keys))
+                self.assertEqual(f"{answer}\n" + session.ask(f"{brings}; COMMIT"), keys, (begin, keys))
                 key = keys.split()[1]
                 self.assertEqual(self.server.sql(f"SET enable_seqscan = off; SELECT count(*) FROM account WHERE npss_caseless_nfkc(name) COLLATE \"C\" = '{key}'", base), "1")
                 self.doCleanups()
@@ -59,9 +59,9 @@ class Following(Apart):
             sessions = [self.session(base) for _ in CALLS]
             for session, call in zip(sessions, CALLS):
                 for _ in range(2):
-                    told = session.ask(f"SELECT {call}")
-                    self.assertIn('55000: npss: the files of Unicode version "15.0" are not here, and "13.0" was recorded without CaseFolding.txt', told)
-                    self.assertNotIn("npss_raise", told)
+                    refusal = session.ask(f"SELECT {call}")
+                    self.assertIn('55000: npss: the files of Unicode version "15.0" are not here, and "13.0" was recorded without CaseFolding.txt', refusal)
+                    self.assertNotIn("npss_raise", refusal)
                 self.assertEqual(session.ask(f"SELECT npss_nfc('{YOUNGEST}') IS NULL").count("22021"), 1)
         finally:
             away.rename(self.versions / "15.0")
@@ -73,9 +73,9 @@ class Following(Apart):
         self.server.sql("SELECT npss_raise('15.0')", base)
         away = (self.versions / "15.0").rename(self.folder / "away")
         self.addCleanup(away.rename, self.versions / "15.0")
-        told = self.refused("55000", "SELECT npss_caseless_nfc('A')", base)
-        self.assertIn('Unicode version "15.0" was recorded without CaseFolding.txt, and makes no caseless keys', told)
-        self.assertIn("npss_raise('15.0') takes it", told)
+        refusal = self.refused("55000", "SELECT npss_caseless_nfc('A')", base)
+        self.assertIn('Unicode version "15.0" was recorded without CaseFolding.txt, and makes no caseless keys', refusal)
+        self.assertIn("npss_raise('15.0') takes it", refusal)
 
     def test_a_session_follows_to_a_version_with_as_many_code_points(self):
         base = self.base("as_many", "13.0")

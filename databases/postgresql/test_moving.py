@@ -26,7 +26,7 @@ class Moving(Case):
     labels = ("15.0",)
     source = CASED
 
-    def told(self, text):
+    def answers(self, text):
         """What statements answer, line by line."""
         return self.server.sql(text, "moving").splitlines()
 
@@ -34,57 +34,57 @@ class Moving(Case):
         self.server.sql("DROP DATABASE IF EXISTS moving")
         self.server.sql("CREATE DATABASE moving TEMPLATE template0 LOCALE 'C.UTF-8'")
         (table,) = statements(0)
-        self.told(f"CREATE EXTENSION npss; {table} {FILL}")
-        self.assertEqual(self.told("SELECT count(*) FROM account"), [str(NAMES)])
+        self.answers(f"CREATE EXTENSION npss; {table} {FILL}")
+        self.assertEqual(self.answers("SELECT count(*) FROM account"), [str(NAMES)])
 
     def cleared(self):
         """Steps 1 and 2: names without a key and collisions are found, and the table is changed so that an index fits."""
         found, kept = statements(1)
-        self.assertEqual(sorted(self.told(found)), [f"U+{917632 + n:X}|1" for n in range(NAMELESS)])
-        self.assertEqual(self.told("SELECT count(*), min(at_character), max(at_character) FROM account_nameless"), [f"{NAMELESS}|2|2"])
-        self.told(kept)
+        self.assertEqual(sorted(self.answers(found)), [f"U+{917632 + n:X}|1" for n in range(NAMELESS)])
+        self.assertEqual(self.answers("SELECT count(*), min(at_character), max(at_character) FROM account_nameless"), [f"{NAMELESS}|2|2"])
+        self.answers(kept)
         found, renamed = statements(2)
-        self.assertEqual(self.told(found), [f"{COLLISIONS}|{COLLISIONS}"])
-        self.told(renamed)
-        self.assertEqual(self.told("SELECT count(*) FROM account WHERE name LIKE '%~%'"), [str(COLLISIONS)])
-        self.assertEqual(self.told("SELECT bool_and(id > 99890 AND name = upper(name)) FROM account WHERE name LIKE '%~%'"), ["t"])
+        self.assertEqual(self.answers(found), [f"{COLLISIONS}|{COLLISIONS}"])
+        self.answers(renamed)
+        self.assertEqual(self.answers("SELECT count(*) FROM account WHERE name LIKE '%~%'"), [str(COLLISIONS)])
+        self.assertEqual(self.answers("SELECT bool_and(id > 99890 AND name = upper(name)) FROM account WHERE name LIKE '%~%'"), ["t"])
 
     def test_all_steps_and_the_way_back(self):
         self.cleared()
         index, broken = statements(3)
-        self.told(index)
-        self.assertEqual(self.told(broken.splitlines()[0]), [])
-        first = self.told("SELECT name FROM account WHERE id = 100")[0]
+        self.answers(index)
+        self.assertEqual(self.answers(broken.splitlines()[0]), [])
+        first = self.answers("SELECT name FROM account WHERE id = 100")[0]
         self.refused("23505", f"INSERT INTO account (name) VALUES (normalize('{first.upper()}', NFKD))", "moving")
         self.refused("23505", f"INSERT INTO account (name) VALUES ('{first.upper()}')", "moving")
         self.refused("22021", "INSERT INTO account (name) VALUES (chr(917632))", "moving")
         asked, plans, function, taken = statements(4)
-        self.assertEqual(self.told(asked), [])
-        self.assertEqual(len(self.told(taken)), 1)
-        self.assertEqual((self.told(taken), len(self.told(asked))), ([], 1))
-        self.assertIn("account_key", "".join(self.told(f"EXPLAIN {asked}")))
-        self.assertIn("Seq Scan", self.told(plans)[0])
-        self.assertRegex(self.told(function)[0], "^[0-9]+\\|Zo\u00eb$")
-        self.assertIn("account_key", "".join(self.told("EXPLAIN SELECT id FROM account_named('ZO\u00cb')")))
-        self.assertEqual(self.told("SELECT name FROM account_named('jose\u0301 100' || chr(1072 + 100 % 32) || normalize(chr(44032 + 100), NFD))"), [first])
+        self.assertEqual(self.answers(asked), [])
+        self.assertEqual(len(self.answers(taken)), 1)
+        self.assertEqual((self.answers(taken), len(self.answers(asked))), ([], 1))
+        self.assertIn("account_key", "".join(self.answers(f"EXPLAIN {asked}")))
+        self.assertIn("Seq Scan", self.answers(plans)[0])
+        self.assertRegex(self.answers(function)[0], "^[0-9]+\\|Zo\u00eb$")
+        self.assertIn("account_key", "".join(self.answers("EXPLAIN SELECT id FROM account_named('ZO\u00cb')")))
+        self.assertEqual(self.answers("SELECT name FROM account_named('jose\u0301 100' || chr(1072 + 100 % 32) || normalize(chr(44032 + 100), NFD))"), [first])
         (gone,) = statements(5)
-        self.assertRegex(self.told(gone)[0], "^[0-9]+$")
+        self.assertRegex(self.answers(gone)[0], "^[0-9]+$")
         back, again = statements(6)
-        self.told(back)
-        self.told(again)
-        self.assertEqual(self.told("SELECT indexrelid::regclass, indisvalid FROM pg_index WHERE indrelid = 'account'::regclass ORDER BY 1"),
+        self.answers(back)
+        self.answers(again)
+        self.assertEqual(self.answers("SELECT indexrelid::regclass, indisvalid FROM pg_index WHERE indrelid = 'account'::regclass ORDER BY 1"),
                          ["account_pkey|t", "account_lower|t"])
 
     def test_an_index_that_fails(self):
         """A name that is taken meanwhile leaves an index behind, which the page finds and drops; one without a key is told."""
         self.cleared()
         index, broken = statements(3)
-        self.told("INSERT INTO account (name) SELECT normalize(upper(name), NFD) FROM account WHERE id = 1")
+        self.answers("INSERT INTO account (name) SELECT normalize(upper(name), NFD) FROM account WHERE id = 1")
         self.refused("23505", index, "moving")
-        self.assertEqual(self.told(broken), ["account_key"])
-        self.assertEqual(self.told(broken), [])
-        self.told("DELETE FROM account WHERE id = (SELECT max(id) FROM account); UPDATE account SET keyed = true WHERE NOT keyed")
+        self.assertEqual(self.answers(broken), ["account_key"])
+        self.assertEqual(self.answers(broken), [])
+        self.answers("DELETE FROM account WHERE id = (SELECT max(id) FROM account); UPDATE account SET keyed = true WHERE NOT keyed")
         self.refused("22021", index, "moving")
-        self.told(broken)
-        self.told("UPDATE account SET keyed = false FROM account_nameless WHERE account.id = account_nameless.id")
-        self.told(index)
+        self.answers(broken)
+        self.answers("UPDATE account SET keyed = false FROM account_nameless WHERE account.id = account_nameless.id")
+        self.answers(index)

@@ -43,11 +43,11 @@ class Page(Case):
         self.assertEqual([tuple(re.findall("`(.*?)`", cell)) for cell in rows[0].split("|")[:3]], pairs[2:])
         asked = [[cell.strip() for cell in row.strip("|").split("|")] for row in rows[2:]]
         self.assertEqual(len(asked), 5)
-        for over, *told in asked:
+        for over, *cells in asked:
             self.server.sql(f"CREATE UNIQUE INDEX one ON account (({over.strip('`')}))", base)
-            for (left, right), cell in zip(pairs, told):
+            for (left, right), cell in zip(pairs, cells):
                 self.assertEqual(self.taken(base, left, right), {"one": "23505", "two": ""}[cell], (over, left))
-            self.assertEqual(self.taken(base, NEVER), {"taken": "", "refused": "22021"}[told[-1]], over)
+            self.assertEqual(self.taken(base, NEVER), {"taken": "", "refused": "22021"}[cells[-1]], over)
             self.server.sql("DROP INDEX one", base)
 
     def taken(self, base, *names):
@@ -76,8 +76,8 @@ class Page(Case):
     def test_accounts_that_move_in(self):
         base = self.accounts()
         self.server.sql(f"INSERT INTO account (name) VALUES ('a'), ('{MARKED}'), ('\ufb01'), ('{NEVER}'), ('FI'), ('\u1eac')", base)
-        told = self.server.sql(self.block("npss_try_caseless_key"), base).splitlines()
-        self.assertEqual((told[0], sorted(told[1:])), (f"4|{NEVER}|(U+E0080,1,0)", ["fi|{3,5}", "\u1ead|{2,6}"]))
+        answers = self.server.sql(self.block("npss_try_caseless_key"), base).splitlines()
+        self.assertEqual((answers[0], sorted(answers[1:])), (f"4|{NEVER}|(U+E0080,1,0)", ["fi|{3,5}", "\u1ead|{2,6}"]))
 
     def test_a_table_of_accounts(self):
         base = self.base("page")

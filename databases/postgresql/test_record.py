@@ -100,16 +100,16 @@ class Upgrades(Case):
         copied(self.versions, {"15.0.0": VERSIONS / "15.0"})
         self.addCleanup(shutil.rmtree, self.versions / "15.0.0")
         self.assertEqual(self.server.sql("SELECT npss_raise('15.0.0')", base), "15.0")
-        self.assertIn('NOTICE:  00000: the files of Unicode version "15.0.0" are recorded already as "15.0"', self.server.told)
+        self.assertIn('NOTICE:  00000: the files of Unicode version "15.0.0" are recorded already as "15.0"', self.server.stderr)
         self.assertEqual(self.server.sql("SELECT npss_raise('15.0')", base), "15.0")
-        self.assertNotIn("NOTICE", self.server.told)
+        self.assertNotIn("NOTICE", self.server.stderr)
         self.assertEqual(self.server.sql("SELECT count(*) FROM npss_record", base), "2")
 
     def test_an_index_is_built_by_the_first_statement_of_a_session(self):
         base = self.base("firsts", "15.0")
         self.server.sql("CREATE TABLE account AS SELECT 'a' || chr(770) || n AS name FROM generate_series(1, 60000) n", base)
         self.server.sql("SET min_parallel_table_scan_size = 0; CREATE INDEX ON account (npss_nfc(name)); REINDEX TABLE account", base)
-        self.assertEqual(self.server.told, "")
+        self.assertEqual(self.server.stderr, "")
 
     def test_parallel_builds_and_scans(self):
         base = self.base("parallels", "15.0")
@@ -207,8 +207,8 @@ class Standby(Case):
             session.ask("SELECT npss_nfc('\u1ead')")  # which warns
             self.assertEqual(session.ask(text), asked[text][0], text)
             self.assertEqual(session.ask(text), asked[text][0], text)
-        told = auditor.ask("SELECT npss_audit('13.0')")
-        self.assertIn('audited against Unicode version "13.0", not against "15.0", which is in force', told)
+        answer = auditor.ask("SELECT npss_audit('13.0')")
+        self.assertIn('audited against Unicode version "13.0", not against "15.0", which is in force', answer)
         copied(versions, {"15.0": VERSIONS / "15.0"})
         for text, session in sessions.items():
             self.assertEqual(session.ask(text), asked[text][1], text)
@@ -238,22 +238,22 @@ class Dumps(Case):
         dump = run([self.programs / "pg_dump", "-h", self.server.folder, "-U", "postgres", "dumped"])
         self.base("back")
         self.server.sql(dump, "back", settings)
-        told = self.server.told
+        stderr = self.server.stderr
         self.assertEqual(self.server.sql("SELECT count(*) FROM account WHERE key = npss_nfkc(name)", "back"), "3")
-        return told
+        return stderr
 
     def test_a_dump_tells_which_version_it_took(self):
         self.filled()
-        told = self.restored()
-        self.assertIn('this database uses Unicode version "15.0", the newest in npss.folder', told)
-        self.assertIn('the dump comes from Unicode version "14.0", and this database uses "15.0"', told)
-        self.assertNotIn("13.0", told)
+        stderr = self.restored()
+        self.assertIn('this database uses Unicode version "15.0", the newest in npss.folder', stderr)
+        self.assertIn('the dump comes from Unicode version "14.0", and this database uses "15.0"', stderr)
+        self.assertNotIn("13.0", stderr)
         self.assertEqual(self.server.sql("SELECT label FROM npss_version()", "back"), "15.0")
 
     def test_a_dump_that_stays_with_its_version(self):
         self.filled()
-        told = self.restored("-c npss.version=14.0")
-        self.assertNotIn("WARNING", told)
+        stderr = self.restored("-c npss.version=14.0")
+        self.assertNotIn("WARNING", stderr)
         self.assertEqual(self.server.sql("SELECT label FROM npss_version()", "back"), "14.0")
         self.refused("22021", f"INSERT INTO account VALUES ('{YOUNGEST}')", "back")
 
@@ -265,8 +265,8 @@ class Dumps(Case):
         # A superuser makes the extension before; what the dump says of the record is refused then, and nothing else.
         self.server.sql("SET npss.version = '14.0'; CREATE EXTENSION npss", "owned")
         self.server.sql("\\set ON_ERROR_STOP off\n\\c - owner\n" + dump, "owned")
-        refused = re.findall(r"ERROR:  42501: (.*)", self.server.told)
-        self.assertEqual(self.server.told.count("ERROR:"), len(refused), self.server.told)
+        refused = re.findall(r"ERROR:  42501: (.*)", self.server.stderr)
+        self.assertEqual(self.server.stderr.count("ERROR:"), len(refused), self.server.stderr)
         self.assertTrue(all("extension npss" in one or "npss_record" in one for one in refused), refused)
         self.assertEqual(self.server.sql("SELECT count(*) FROM account WHERE key = npss_nfkc(name)", "owned"), "3")
         self.assertEqual(self.server.sql("SELECT label FROM npss_record", "owned"), "14.0")
@@ -274,11 +274,11 @@ class Dumps(Case):
     def test_data_alone_comes_behind_its_raise(self):
         self.filled()
         dump = run([self.programs / "pg_dump", "-h", self.server.folder, "-U", "postgres", "--data-only", "dumped"])
-        for raised, told in (("", "0"), ("SELECT npss_raise('14.0')", "3")):
+        for raised, count in (("", "0"), ("SELECT npss_raise('14.0')", "3")):
             self.base("late", "13.0")
             self.server.sql('CREATE TABLE account (name text, key text COLLATE "C" GENERATED ALWAYS AS (npss_nfkc(name)) STORED UNIQUE)', "late")
             self.server.sql(f"{raised};\n\\set ON_ERROR_STOP off\n{dump}", "late")
-            self.assertEqual(self.server.sql("SELECT count(*) FROM account", "late"), told)
+            self.assertEqual(self.server.sql("SELECT count(*) FROM account", "late"), count)
 
     def test_a_dump_comes_into_an_empty_cluster(self):
         self.filled()
@@ -288,7 +288,7 @@ class Dumps(Case):
         empty = Server(self.programs, self.folder / "empty", versions).create().start()
         self.addCleanup(empty.stop, "immediate")
         empty.sql(dump)
-        self.assertIn("WARNING", empty.told)
+        self.assertIn("WARNING", empty.stderr)
         self.assertEqual(empty.sql("SELECT count(*) FROM account WHERE key = npss_nfkc(name)", "dumped"), "3")
         self.assertEqual(empty.sql("SELECT label FROM npss_record ORDER BY assigned", "dumped"), "14.0\n15.0")
 

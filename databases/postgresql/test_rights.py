@@ -30,8 +30,8 @@ class Rights(Case):
             self.refused_to(role, "42602", loaded + "SET npss.other = '1'", base)
 
     def test_what_the_package_tells_of_itself(self):
-        told = self.server.sql("SELECT DISTINCT superuser, trusted, relocatable FROM pg_available_extension_versions WHERE name = 'npss'")
-        self.assertEqual(told, "t|f|f")
+        answer = self.server.sql("SELECT DISTINCT superuser, trusted, relocatable FROM pg_available_extension_versions WHERE name = 'npss'")
+        self.assertEqual(answer, "t|f|f")
         base = self.base("trusted")
         self.server.sql(f"ALTER DATABASE {base} OWNER TO joe", base)
         self.refused_to("joe", "42501", "CREATE EXTENSION npss", base)
@@ -50,13 +50,13 @@ class Rights(Case):
             self.refused_to("gran", "42501", text, base)
 
     def test_the_folder_is_told_to_nobody(self):
-        base = self.base("told", "15.0")
+        base = self.base("folder", "15.0")
         away = self.folder / "away"
         (self.versions / "15.0").rename(away)
         try:
-            told = self.refused_to("joe", "58P01", f"SELECT npss_nfc('{MARKED}')", base)
-            self.assertIn('could not open file "15.0/UnicodeData.txt" of npss.folder', told)
-            self.assertNotIn(str(self.versions), told)
+            refusal = self.refused_to("joe", "58P01", f"SELECT npss_nfc('{MARKED}')", base)
+            self.assertIn('could not open file "15.0/UnicodeData.txt" of npss.folder', refusal)
+            self.assertNotIn(str(self.versions), refusal)
         finally:
             away.rename(self.versions / "15.0")
         self.assertIn(f'npss.folder is "{self.versions}".', (self.server.folder / "log").read_text())

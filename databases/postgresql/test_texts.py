@@ -33,15 +33,15 @@ class Long(Case):
             made = [(sql, unicodedata.normalize(form.upper(), text), text) for sql, text in self.texts()]
             asked = "\n".join(f"SELECT md5(npss_{form}(t)), md5(npss_normalize(t, '{form}')), md5(npss_try_key(t, '{form}')), npss_is_normalized(t, '{form}') "
                               f"FROM (SELECT {sql} AS t) AS of;" for sql, _, _ in made)
-            told = [f"{digest(key)}|{digest(key)}|{digest(key)}|{'t' if key == text else 'f'}" for _, key, text in made]
-            self.assertEqual(self.server.sql(asked, base).splitlines(), told)
+            wanted = [f"{digest(key)}|{digest(key)}|{digest(key)}|{'t' if key == text else 'f'}" for _, key, text in made]
+            self.assertEqual(self.server.sql(asked, base).splitlines(), wanted)
 
     def test_the_first_that_is_unassigned(self):
         base = self.base("places", "13.0")
         made = list(self.texts())
         asked = "\n".join(f"SELECT * FROM npss_first_unassigned({sql} || '{YOUNGEST}a{YOUNGEST}');" for sql, _ in made)
-        told = [f"U+1E08F|{len(text) + 1}|{len(text.encode())}" for _, text in made]
-        self.assertEqual(self.server.sql(asked, base).splitlines(), told)
+        wanted = [f"U+1E08F|{len(text) + 1}|{len(text.encode())}" for _, text in made]
+        self.assertEqual(self.server.sql(asked, base).splitlines(), wanted)
         self.assertEqual(self.server.sql("\n".join(f"SELECT npss_first_unassigned({sql}) IS NULL;" for sql, _ in made), base).split(), ["t"] * len(made))
 
     def test_normal_forms_of_what_has_no_key(self):
@@ -54,38 +54,38 @@ class Long(Case):
                 self.assertEqual(self.server.sql(f"SELECT md5(npss_normalize(t, '{form}')), npss_try_key(t, '{form}') IS NULL, npss_is_normalized(t, '{form}'), "
                                                  f"npss_is_normalized(npss_normalize(t, '{form}'), '{form}'), npss_equivalent(t, npss_normalize(t, '{form}')) "
                                                  f"FROM (SELECT {sql} AS t) AS of", base), f"{digest(key)}|t|f|t|t")
-            told = self.refused("22021", f"SELECT npss_nfc({sql})", base)
-            self.assertIn(f"It is character {front + 1} of the text, at byte {front}.", told)
+            refusal = self.refused("22021", f"SELECT npss_nfc({sql})", base)
+            self.assertIn(f"It is character {front + 1} of the text, at byte {front}.", refusal)
 
     def test_texts_of_one_length(self):
         base = self.base("same", "15.0")
         long = "repeat('x', 1500000)"
-        for left, right, told in (("'a' ||", "'b' ||", "f"), ("'a' ||", "'a' ||", "t"), ("'\u00eb' ||", "'\u00eb' ||", "t")):
-            self.assertEqual(self.server.sql(f"SELECT npss_equivalent({left} {long}, {right} {long}), npss_equivalent({left} {long}, {right} {long}, 'nfkd')", base), f"{told}|{told}")
+        for left, right, wanted in (("'a' ||", "'b' ||", "f"), ("'a' ||", "'a' ||", "t"), ("'\u00eb' ||", "'\u00eb' ||", "t")):
+            self.assertEqual(self.server.sql(f"SELECT npss_equivalent({left} {long}, {right} {long}), npss_equivalent({left} {long}, {right} {long}, 'nfkd')", base), f"{wanted}|{wanted}")
         for left, right in (("'a'", "'b'"), ("'a\u0302\u0323'", "'b\u0302\u0323'")):
             self.assertEqual(self.server.sql(f"SELECT npss_equivalent({long} || {left}, {long} || {right})", base), "f")
         # Its NFD is as long, with its marks in another order.
         self.assertEqual(self.server.sql(f"SELECT npss_is_normalized({long} || '{MARKED}', 'nfd'), npss_is_normalized({long} || 'a\u0323\u0302', 'nfd')", base), "f|t")
 
 
-def record(code, category="Lo", order=0, mapping=""):
+def data_record(code, category="Lo", order=0, mapping=""):
     """A line of UnicodeData.txt."""
     return f"{code:04X};X;{category};{order};L;{mapping};;;;N;;;;;"
 
 
 def ascii_with(*others):
     """A data file of ASCII alone but for other records, which stand in the place of those of their code points."""
-    records = {code: record(code) for code in range(0x80)} | {int(other.partition(";")[0], 16): other for other in others}
-    return "".join(f"{records[code]}\n" for code in sorted(records))
+    data_records = {code: data_record(code) for code in range(0x80)} | {int(other.partition(";")[0], 16): other for other in others}
+    return "".join(f"{data_records[code]}\n" for code in sorted(data_records))
 
 
 # For each version that is made here its data file, whether ASCII is its own key in it under each form, and a text with its NFKC.
 MADE = {
     "plain": (ascii_with(), "t", "AB", "AB"),
-    "compatible": (ascii_with(record(0x41, mapping="<compat> 0062")), "f", "AB", "bB"),
-    "composing": (ascii_with(record(0x100, mapping="0041 0042")), "f", "AB", "\u0100"),
-    "marked": (ascii_with(record(0x41, "Mn", 230), record(0x42, "Mn", 220)), "f", "AB", "BA"),
-    "holed": (ascii_with().replace(f"{record(0x41)}\n", ""), "f", "B", "B"),
+    "compatible": (ascii_with(data_record(0x41, mapping="<compat> 0062")), "f", "AB", "bB"),
+    "composing": (ascii_with(data_record(0x100, mapping="0041 0042")), "f", "AB", "\u0100"),
+    "marked": (ascii_with(data_record(0x41, "Mn", 230), data_record(0x42, "Mn", 220)), "f", "AB", "BA"),
+    "holed": (ascii_with().replace(f"{data_record(0x41)}\n", ""), "f", "B", "B"),
 }
 
 
@@ -113,12 +113,12 @@ class Words(Case):
 
     def test_each_form_compares(self):
         base = self.base("compares", "15.0")
-        told = self.server.sql("SELECT form, npss_equivalent('\ufb01', 'fi', form), npss_equivalent('\u1ead', 'a\u0302\u0323', form), npss_equivalent('a', 'b', form) "
+        answer = self.server.sql("SELECT form, npss_equivalent('\ufb01', 'fi', form), npss_equivalent('\u1ead', 'a\u0302\u0323', form), npss_equivalent('a', 'b', form) "
                                "FROM unnest(ARRAY['nfc', 'nfd', 'nfkc', 'nfkd']) AS form", base)
-        self.assertEqual(told.split(), ["nfc|f|t|f", "nfd|f|t|f", "nfkc|t|t|f", "nfkd|t|t|f"])
+        self.assertEqual(answer.split(), ["nfc|f|t|f", "nfd|f|t|f", "nfkc|t|t|f", "nfkd|t|t|f"])
         long = "repeat('\u1ead', 500000)"
-        told = self.server.sql(f"SELECT form, npss_equivalent('\ufb01' || {long}, 'fi' || {long}, form) FROM unnest(ARRAY['nfc', 'nfd', 'nfkc', 'nfkd']) AS form", base)
-        self.assertEqual(told.split(), ["nfc|f", "nfd|f", "nfkc|t", "nfkd|t"])
+        answer = self.server.sql(f"SELECT form, npss_equivalent('\ufb01' || {long}, 'fi' || {long}, form) FROM unnest(ARRAY['nfc', 'nfd', 'nfkc', 'nfkd']) AS form", base)
+        self.assertEqual(answer.split(), ["nfc|f", "nfd|f", "nfkc|t", "nfkd|t"])
 
     def test_labels(self):
         base = self.base("labels", "14.0")
@@ -133,15 +133,15 @@ class Words(Case):
     def test_hints_of_noncharacters(self):
         base = self.base("hints", "13.0")
         for code, is_one in ((0xFDCF, False), (0xFDD0, True), (0xFDEF, True), (0xFFFE, True), (0xFFFF, True), (0x1FFFE, True), (0x10FFFF, True), (0x1FFFD, False)):
-            told = self.refused("22021", f"SELECT npss_nfc('{chr(code)}')", base)
-            self.assertEqual("It is a noncharacter, which no version assigns." in told, is_one, hex(code))
+            refusal = self.refused("22021", f"SELECT npss_nfc('{chr(code)}')", base)
+            self.assertEqual("It is a noncharacter, which no version assigns." in refusal, is_one, hex(code))
         self.assertEqual(self.server.sql("SELECT npss_nfc('\ufdf0\ufffd') = '\ufdf0\ufffd'", base), "t")
 
     def test_long_decompositions(self):
         base = self.base("decompositions", "15.0")
         letters = "a\ufdfa\u1ead\uac01\ufb01"
-        told = self.server.sql(f"SELECT concat('=', decomposition) FROM npss_why('{letters}')", base).splitlines()
-        self.assertEqual(told, ["=", *("=" + " ".join(f"{ord(one):04X}" for one in unicodedata.normalize("NFKD", letter)) for letter in letters[1:])])
+        answer = self.server.sql(f"SELECT concat('=', decomposition) FROM npss_why('{letters}')", base).splitlines()
+        self.assertEqual(answer, ["=", *("=" + " ".join(f"{ord(one):04X}" for one in unicodedata.normalize("NFKD", letter)) for letter in letters[1:])])
 
     def test_digests(self):
         base = self.base("digests", "13.0")

@@ -69,9 +69,9 @@ class Vacuums(Case):
     def same_answers(self, base):
         """The index finds what the table has."""
         name = "npss_nfkc('Zo\u00eb' || repeat('x', 200) || 77)"
-        told = self.server.sql("SET enable_seqscan = off; EXPLAIN (COSTS OFF) SELECT count(*) FROM account WHERE "
+        plan = self.server.sql("SET enable_seqscan = off; EXPLAIN (COSTS OFF) SELECT count(*) FROM account WHERE "
                                f'npss_nfkc(name) COLLATE "C" = {name}', base)
-        self.assertIn("account_key", told)
+        self.assertIn("account_key", plan)
         for off in ("seqscan", "bitmapscan"):
             self.assertEqual(self.server.sql(f'SET enable_{off} = off; SELECT count(*) FROM account WHERE npss_nfkc(name) COLLATE "C" = {name}', base), "1")
 
@@ -103,7 +103,7 @@ class Vacuums(Case):
             self.refused("58P01", text, base)
         # ANALYZE alone stores nothing there.
         self.server.sql("ANALYZE account", base)
-        self.assertIn("WARNING", self.server.told)
+        self.assertIn("WARNING", self.server.stderr)
         self.come_back()
         self.same_answers(base)
         self.server.sql("VACUUM account", base)
@@ -117,8 +117,8 @@ class Vacuums(Case):
                         f"CREATE STATISTICS kept ON fails(name), name FROM other; INSERT INTO other VALUES ('x'), ('a')", base)
         session = self.session(base)
         self.hide()
-        told = session.ask("DO $$ BEGIN ANALYZE other; EXCEPTION WHEN OTHERS THEN RAISE NOTICE '%', sqlerrm; END $$")
-        self.assertIn("failed", told)
+        answer = session.ask("DO $$ BEGIN ANALYZE other; EXCEPTION WHEN OTHERS THEN RAISE NOTICE '%', sqlerrm; END $$")
+        self.assertIn("failed", answer)
         self.assertIn("58P01", session.ask(f"SELECT npss_nfc('{MARKED}')"))
 
     def test_autovacuum_analyzes_without_files(self):
@@ -136,9 +136,9 @@ class Vacuums(Case):
         self.hide("15.0")
         for text in ("ANALYZE account", "VACUUM ANALYZE account"):
             self.server.sql(text, base)
-            told = self.server.told
-            self.assertEqual(told.count('ANALYZE leaves out names that are new in Unicode version "15.0"'), 1, told)
-            self.assertLess(told.count("WARNING"), 5, told)
+            stderr = self.server.stderr
+            self.assertEqual(stderr.count('ANALYZE leaves out names that are new in Unicode version "15.0"'), 1, stderr)
+            self.assertLess(stderr.count("WARNING"), 5, stderr)
         # What isn't ANALYZE is refused all the same.
         self.refused("22021", "REINDEX TABLE account", base)
         self.server.sql("DELETE FROM account WHERE ctid IN (SELECT ctid FROM account LIMIT 10)", base)
@@ -146,4 +146,4 @@ class Vacuums(Case):
         self.until(self.counted(base, "autoanalyze_count"), "an autoanalyze")
         self.come_back()
         self.server.sql("REINDEX TABLE account; ANALYZE account", base)
-        self.assertNotIn("WARNING", self.server.told)
+        self.assertNotIn("WARNING", self.server.stderr)

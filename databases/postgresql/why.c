@@ -18,14 +18,14 @@ decomposition_of(Version *version, pg_wchar code)
 	uint8		room[1024],
 				own[8];
 	npss_answer answer = npss_decomposition(&version->handle, true, code, room, sizeof room);
-	StringInfoData told;
+	StringInfoData digits;
 
-	initStringInfo(&told);
+	initStringInfo(&digits);
 	unicode_to_utf8(code, own);
 	if (answer.status == NPSS_DONE && !(answer.length == pg_utf_mblen(own) && memcmp(room, own, answer.length) == 0))
 		for (size_t at = 0; at < answer.length; at += pg_utf_mblen(room + at))
-			appendStringInfo(&told, "%s%04X", at > 0 ? " " : "", utf8_to_unicode(room + at));
-	return cstring_to_text_with_len(told.data, told.len);
+			appendStringInfo(&digits, "%s%04X", at > 0 ? " " : "", utf8_to_unicode(room + at));
+	return cstring_to_text_with_len(digits.data, digits.len);
 }
 
 /* Where a function puts its rows: what InitMaterializedSRF does, which PostgreSQL 15.0 and those before lack. */
@@ -53,20 +53,20 @@ static void
 put_row(ReturnSetInfo *result, Version *version, int number, pg_wchar code)
 {
 	static const char *const mappings[] = {NULL, "canonical", "compatibility"};
-	npss_answer told = npss_property(&version->handle, code);
-	bool		assigned = told.status == NPSS_DONE;
-	const char *mapping = assigned && told.fault < lengthof(mappings) ? mappings[told.fault] : NULL;
+	npss_answer facts = npss_property(&version->handle, code);
+	bool		assigned = facts.status == NPSS_DONE;
+	const char *mapping = assigned && facts.fault < lengthof(mappings) ? mappings[facts.fault] : NULL;
 	Datum		values[7];
 	bool		nulls[7] = {false};
 
 	values[0] = Int32GetDatum(number);
 	values[1] = CStringGetTextDatum(psprintf("U+%04X", code));
 	values[2] = BoolGetDatum(assigned);
-	values[3] = Int32GetDatum(assigned ? (int32) told.code : 0);
+	values[3] = Int32GetDatum(assigned ? (int32) facts.code : 0);
 	nulls[4] = mapping == NULL;
 	values[4] = nulls[4] ? (Datum) 0 : CStringGetTextDatum(mapping);
 	values[5] = PointerGetDatum(decomposition_of(version, code));
-	values[6] = BoolGetDatum(assigned && told.place != 0);
+	values[6] = BoolGetDatum(assigned && facts.place != 0);
 	tuplestore_putvalues(result->setResult, result->setDesc, values, nulls);
 }
 

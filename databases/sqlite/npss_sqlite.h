@@ -21,7 +21,7 @@ typedef struct state {
 typedef struct watch {
     int takes_part;         /* in the transaction that is open */
     int depth;              /* how many savepoints are open, those of statements too */
-    int taken;              /* one more than the depth at which the tables in use were read; 0 where no rollback takes the record back */
+    int read_depth;         /* one more than the depth at which the tables in use were read; 0 where no rollback takes the record back */
     int is_undone;          /* a rollback may have taken back what was read */
     unsigned turns, undone; /* how many transactions and savepoints began, and how many were rolled back */
     int is_connected;       /* it is there, until SQLite closes the connection */
@@ -33,7 +33,7 @@ typedef struct fitting {
     char *mark; /* by what it is known again, of sqlite3_mprintf; NULL where none was looked at */
     unsigned data_version;
     sqlite3_int64 others, schema;
-    watch told;
+    watch watched;
 } fitting;
 
 /* How many databases of a connection are remembered, by their numbers: main, temp, and as many as SQLite attaches by itself. */
@@ -83,7 +83,7 @@ void free_files(files *held);
 npss_answer keeps_own(npss_handle *older, npss_handle *newer);
 
 /* record.c */
-int ask_number(sqlite3 *db, const char *text, sqlite3_int64 *told);
+int ask_number(sqlite3 *db, const char *text, sqlite3_int64 *number);
 int folding_column(sqlite3 *db, const char *schema);
 unsigned data_version(sqlite3 *db, const char *schema);
 int transaction_of(sqlite3 *db, const char *schema);
@@ -95,7 +95,7 @@ int use_raised(sqlite3_context *call, connection *self, npss_handle *tables);
 /* watch.c */
 extern const sqlite3_module watching;
 int is_watched(connection *self);
-void take(connection *self);
+void note_read(connection *self);
 int may_be_detached(connection *self);
 
 /* attached.c */

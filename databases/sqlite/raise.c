@@ -15,7 +15,7 @@ void do_version(sqlite3_context *call, int count, sqlite3_value **given) {
 }
 
 /* What newer files break first, of sqlite3_mprintf. */
-static char *told_break(npss_answer a) {
+static char *break_text(npss_answer a) {
     if (a.status == NPSS_NO_FOLDING) return sqlite3_mprintf("no %s", file_names[FOLDING_FILE]);
     return sqlite3_mprintf("%s %04X", break_kind(a).text, a.code);
 }
@@ -32,8 +32,8 @@ void do_audit(sqlite3_context *call, int count, sqlite3_value **given) {
         if (a.status == NPSS_DONE) {
             sqlite3_result_text(call, "extends", -1, SQLITE_STATIC);
         } else {
-            char *told = told_break(a);
-            if (told) sqlite3_result_text(call, told, -1, sqlite3_free);
+            char *text = break_text(a);
+            if (text) sqlite3_result_text(call, text, -1, sqlite3_free);
             else fail_memory(call);
         }
     }

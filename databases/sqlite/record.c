@@ -11,10 +11,10 @@ SQLITE_EXTENSION_INIT3
 /* ---- the state of a database */
 
 /* The number that a statement tells first: SQLITE_ROW; else how it ended. */
-int ask_number(sqlite3 *db, const char *text, sqlite3_int64 *told) {
+int ask_number(sqlite3 *db, const char *text, sqlite3_int64 *number) {
     sqlite3_stmt *ask = NULL;
     int code = sqlite3_prepare_v2(db, text, -1, &ask, NULL);
-    if (code == SQLITE_OK && (code = sqlite3_step(ask)) == SQLITE_ROW) *told = sqlite3_column_int64(ask, 0);
+    if (code == SQLITE_OK && (code = sqlite3_step(ask)) == SQLITE_ROW) *number = sqlite3_column_int64(ask, 0);
     sqlite3_finalize(ask);
     return code & 0xFF;
 }
@@ -32,9 +32,9 @@ int folding_column(sqlite3 *db, const char *schema) {
 
 /* The data version of a database, of the main one where none is named. */
 unsigned data_version(sqlite3 *db, const char *schema) {
-    unsigned told = 0;
-    sqlite3_file_control(db, schema, SQLITE_FCNTL_DATA_VERSION, &told);
-    return told;
+    unsigned version = 0;
+    sqlite3_file_control(db, schema, SQLITE_FCNTL_DATA_VERSION, &version);
+    return version;
 }
 
 /* Whether a database is read or written in the present transaction. Before SQLite 3.34, which doesn't tell, it counts as
@@ -52,9 +52,9 @@ int transaction_of(sqlite3 *db, const char *schema) {
  * there. */
 static int is_as_seen(connection *self) {
     if (sqlite3_get_autocommit(self->db)) {
-        sqlite3_int64 told;
+        sqlite3_int64 none;
         int transaction = transaction_of(self->db, "main");
-        if (transaction == 0) ask_number(self->db, "PRAGMA main.data_version", &told);
+        if (transaction == 0) ask_number(self->db, "PRAGMA main.data_version", &none);
         else if (transaction < self->seen.transaction) return 0;
     }
     return data_version(self->db, NULL) == self->seen.pager;
@@ -96,7 +96,7 @@ int use(sqlite3_context *call, connection *self, npss_handle *tables, int is_rec
     self->assigned = (sqlite3_int64)npss_count(tables).length;
     self->is_recorded = is_recorded;
     self->is_folded = has_foldings(tables);
-    take(self);
+    note_read(self);
     return 1;
 }
 

@@ -71,8 +71,8 @@ class Caseless(Folded):
                     self.refused(f"U\\+{row.refused[0]} at byte {row.refused[1]} is not assigned", base, f"SELECT {call}", row.string)
                 self.assertIsNone(tried)
             else:
-                told = [self.asked(base, f"npss_caseless_{row.form}(?)", row.string), self.asked(base, "npss_caseless_key(?, upper(?))", row.string, row.form), tried]
-                self.assertEqual(told, [row.key] * 3, row)
+                answers = [self.asked(base, f"npss_caseless_{row.form}(?)", row.string), self.asked(base, "npss_caseless_key(?, upper(?))", row.string, row.form), tried]
+                self.assertEqual(answers, [row.key] * 3, row)
                 self.assertEqual(row.form != "nfc" or self.asked(base, "npss_caseless_key(?)", row.string), row.form != "nfc" or row.key)
 
     def test_matches_of_the_fixtures(self):
@@ -86,8 +86,8 @@ class Caseless(Folded):
 
     def test_matches_take_what_is_unassigned(self):
         base = self.raised(CASED_OLD)
-        for left, right, told in ((CAPITAL, CAPITAL, (1, 1)), (CAPITAL, SMALL, (0, 0)), ("\u2121\ufdd0", "TEL\ufdd0", (0, 1)), ("Zo\u00cb", "zoe\u0308", (1, 1))):
-            self.assertEqual((self.asked(base, "npss_caseless_match(?, ?)", left, right), self.asked(base, "npss_caseless_match(?, ?, 'nfkc')", left, right)), told)
+        for left, right, wanted in ((CAPITAL, CAPITAL, (1, 1)), (CAPITAL, SMALL, (0, 0)), ("\u2121\ufdd0", "TEL\ufdd0", (0, 1)), ("Zo\u00cb", "zoe\u0308", (1, 1))):
+            self.assertEqual((self.asked(base, "npss_caseless_match(?, ?)", left, right), self.asked(base, "npss_caseless_match(?, ?, 'nfkc')", left, right)), wanted)
         for call in ("npss_caseless_match(NULL, 'a')", "npss_caseless_match('a', NULL, 'nfd')", "npss_caseless_nfc(NULL)", "npss_try_caseless_key(NULL)"):
             self.assertIsNone(self.asked(base, call))
         self.refused("nfc, nfd, nfkc or nfkd, not 'nfx'", base, "SELECT npss_caseless_match('a', 'b', 'nfx')")
@@ -148,11 +148,11 @@ class Foldings(Folded):
         room = self.folder()
         for name in fixture_rows.TOYS:
             fixture_rows.put_toy(room / name, name)
-        for old, new, told in fixture_rows.audits():
+        for old, new, first in fixture_rows.audits():
             base = self.raised(room / old, f"{self.path}.{old}.{new}")
-            self.assertEqual(self.asked(base, "npss_audit(?)", str(room / new)), told, (old, new))
-            if told != "extends":
-                self.refused(f"do not extend this database's version: {told}", base, "SELECT npss_raise(?)", str(room / new))
+            self.assertEqual(self.asked(base, "npss_audit(?)", str(room / new)), first, (old, new))
+            if first != "extends":
+                self.refused(f"do not extend this database's version: {first}", base, "SELECT npss_raise(?)", str(room / new))
         # Comments and lines that aren't used are no change.
         changed = room / "v2" / FOLDING
         changed.write_bytes(b"# more\n" + changed.read_bytes())
@@ -201,8 +201,8 @@ class Foldings(Folded):
             self.whole(beside)
 
     def test_an_older_database_gains_the_column_at_its_first_raise(self):
-        for folder, told in ((MIDDLE, None), (CASED_MIDDLE, "a")):
-            path = f"{self.path}.{told}"
+        for folder, key in ((MIDDLE, None), (CASED_MIDDLE, "a")):
+            path = f"{self.path}.{key}"
             base = self.older(path=path)
             beside = self.connect(path)
             self.assertEqual((self.asked(base, "npss_nfc(?)", MARKED), self.columns(base)), ("\u1ead", ["one", "assigned", "data", "exclusions"]))
@@ -216,8 +216,8 @@ class Foldings(Folded):
             self.assertEqual(self.columns(base), ["one", "assigned", "data", "exclusions", "folding"])
             for one in (base, beside):
                 self.assertEqual(self.asked(one, "npss_nfc(?)", CAPITAL), CAPITAL)
-                if told:
-                    self.assertEqual(self.asked(one, "npss_caseless_key('A')"), told)
+                if key:
+                    self.assertEqual(self.asked(one, "npss_caseless_key('A')"), key)
                 else:
                     self.refused(LACKS, one, "SELECT npss_caseless_key('A')")
             self.refused("npss_raise alone", base, "UPDATE npss_record SET folding = NULL")

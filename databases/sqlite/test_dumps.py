@@ -117,8 +117,8 @@ class Opened(Case):
             base = self.connect(path)
             base.execute("SELECT npss_open(?)", (mine,))
             self.assertEqual(self.asked(base, "npss_nfc(?)", MARKED), "\u1ead")
-            told = self.asked(self.connect(path), "npss_raise(?)", theirs)
-            self.assertEqual(self.asked(base, "npss_version()"), told)
+            count = self.asked(self.connect(path), "npss_raise(?)", theirs)
+            self.assertEqual(self.asked(base, "npss_version()"), count)
 
     def test_a_record_that_fits_not_is_refused_by_each_call(self):
         base = self.opened(self.changed("0323;COMBINING DOT BELOW;Mn;220", "0323;COMBINING DOT BELOW;Mn;240"))

@@ -94,9 +94,9 @@ class Indexes(Case):
         rows = base.execute("SELECT name || narg, flags & 0x800 > 0, flags & 0x200000 > 0, flags & 0x80000 > 0 FROM pragma_function_list WHERE name LIKE 'npss%'")
         keys = {f"npss_{kind}{name}" for kind in ("", "caseless_") for name in ("key1", "key2", "nfc1", "nfd1", "nfkc1", "nfkd1")}
         direct = {f"npss_{name}{count}" for name in ("open", "audit", "raise") for count in (1, 2, 3)}
-        told = {name: flags for name, *flags in rows}
-        self.assertEqual(keys | direct, (keys | direct) & told.keys())
-        for name, flags in told.items():
+        flags_of = {name: flags for name, *flags in rows}
+        self.assertEqual(keys | direct, (keys | direct) & flags_of.keys())
+        for name, flags in flags_of.items():
             self.assertEqual(flags, [int(name in keys), int(name not in direct), int(name in direct)], name)
 
     def test_where_schemas_are_not_trusted(self):

@@ -82,16 +82,16 @@ print(base.execute("SELECT npss_nfc('a')").fetchone()[0])
             self.assertGreater(last, first)
             ends = self.refused_each(shim, Path(name), before + raised + behind, first - 20)
         # Where the statement was refused that begins the transaction, or the one that undoes it, nothing is undone.
-        told = [out.splitlines()[-1] for out, err in ends if not re.search("line [36]: out of memory", err) and "\nend|" in f"\n{out}"]
-        self.assertGreater(len(told), (last - first) // 2)
-        self.assertEqual(set(told), {f"end|{count}|1"})
+        lines = [out.splitlines()[-1] for out, err in ends if not re.search("line [36]: out of memory", err) and "\nend|" in f"\n{out}"]
+        self.assertGreater(len(lines), (last - first) // 2)
+        self.assertEqual(set(lines), {f"end|{count}|1"})
 
-    def shell(self, shim, folder, statements, **told):
+    def shell(self, shim, folder, statements, **variables):
         """A run of SQLite's shell over a database in memory, with the shim that is told so; what it wrote."""
         with open(folder / "given", "w+", encoding="utf-8") as given, open(folder / "out", "w", encoding="utf-8") as out, open(folder / "err", "w") as err:
             given.write("\n".join(statements) + "\n")
             given.seek(0)
-            subprocess.run(["sqlite3", "-batch", ":memory:"], stdin=given, stdout=out, stderr=err, env={**os.environ, "LD_PRELOAD": str(shim), **told},
+            subprocess.run(["sqlite3", "-batch", ":memory:"], stdin=given, stdout=out, stderr=err, env={**os.environ, "LD_PRELOAD": str(shim), **variables},
                            timeout=600, check=False)
 
     def allocations(self, shim, folder, statements):
@@ -102,12 +102,12 @@ print(base.execute("SELECT npss_nfc('a')").fetchone()[0])
     def refused_each(self, shim, folder, statements, first):
         """What copies of a run wrote to both outputs, each of which was refused one allocation, from a place on."""
         self.shell(shim, folder, statements, REFUSE="memory:0:", REFUSE_EACH=f"{first}:1", REFUSE_ENDS=str(folder / "ends"))
-        told, found = (folder / "ends").read_bytes(), []
-        while told:
-            line, _, told = told.partition(b"\n")
+        written, found = (folder / "ends").read_bytes(), []
+        while written:
+            line, _, written = written.partition(b"\n")
             *_, out, err = map(int, line.split())
-            found.append((told[:out].decode(), told[out:out + err].decode()))
-            told = told[out + err:]
+            found.append((written[:out].decode(), written[out:out + err].decode()))
+            written = written[out + err:]
         return found
 
     @unittest.skipUnless(shutil.which("valgrind"), "valgrind is not here")

@@ -36,14 +36,14 @@ class Raises(Case):
     def test_each_question_follows_another_connection(self):
         base = self.with_names()
         # U+1E030 is new in 15.0, and has a mapping there.
-        for ask, told in (("npss_normalize(?, 'nfkc')", "\u0430"), ("npss_try_key(?, 'nfkc')", "\u0430"), ("npss_is_normalized(?, 'nfkc')", 0),
+        for ask, wanted in (("npss_normalize(?, 'nfkc')", "\u0430"), ("npss_try_key(?, 'nfkc')", "\u0430"), ("npss_is_normalized(?, 'nfkc')", 0),
                           ("npss_equivalent(?, '\u0430', 'nfkc')", 1), ("npss_equivalent('\u0430', ?, 'nfkc')", 1)):
             path = self.path + str(abs(hash(ask)))
             base, beside = self.connect(path), self.connect(path)
             base.execute("SELECT npss_raise(?)", (OLD,))
             before = self.asked(beside, ask, "\U0001e030")
             base.execute("SELECT npss_raise(?)", (NEW,))
-            self.assertEqual((before == told, self.asked(beside, ask, "\U0001e030")), (False, told), ask)
+            self.assertEqual((before == wanted, self.asked(beside, ask, "\U0001e030")), (False, wanted), ask)
 
     def test_audits_and_versions_are_of_the_record(self):
         base, beside = self.with_names(), self.connect()
@@ -259,7 +259,7 @@ class Waits(Case):
     """Raises beside other connections."""
 
     def test_a_raise_waits_for_another(self):
-        for first, second, told in ((MIDDLE, NEW, 288767), (NEW, MIDDLE, "do not extend")):
+        for first, second, answer in ((MIDDLE, NEW, 288767), (NEW, MIDDLE, "do not extend")):
             path = self.path + first[-4:]
             base, answers = self.connect(path), []
             base.execute("SELECT npss_raise(?)", (OLD,))
@@ -284,7 +284,7 @@ class Waits(Case):
             time.sleep(1)
             base.execute("COMMIT")
             thread.join()
-            self.assertIn(str(told), str(answers[0]))
+            self.assertIn(str(answer), str(answers[0]))
             self.assertEqual(self.asked(base, "npss_version()"), 288767)
 
     def test_two_raises_at_once(self):
@@ -334,9 +334,9 @@ class Waits(Case):
             base = self.connect()
             base.execute("PRAGMA busy_timeout = 0")
             thread = self.meanwhile(text, 1)
-            told = self.asked(base, "npss_raise(?)", version)
+            count = self.asked(base, "npss_raise(?)", version)
             thread.join()
-            self.assertEqual(self.asked(base, "npss_version()"), told)
+            self.assertEqual(self.asked(base, "npss_version()"), count)
             self.assertEqual(self.asked(base, "timeout FROM pragma_busy_timeout"), 0)
             self.whole(base)
 

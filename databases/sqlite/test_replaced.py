@@ -130,14 +130,14 @@ class Replaced(Case):
         base = self.with_names(OLD)
         base.execute("INSERT INTO account VALUES ('a'), ('b'), ('c'), ('d'), ('e'), ('f')")
         running = base.execute("SELECT npss_try_key(?) FROM account", (YOUNGEST,))
-        told = [running.fetchone()]
+        rows = [running.fetchone()]
         base.execute("BEGIN")
         base.execute("SELECT npss_raise(?)", (NEW,))
-        told += [running.fetchone(), running.fetchone()]
+        rows += [running.fetchone(), running.fetchone()]
         base.execute("ROLLBACK")
-        told += running.fetchall()
+        rows += running.fetchall()
         # Python is up to a row ahead of what it hands over.
-        self.assertEqual((told[0], told[-2:], (YOUNGEST,) in told), ((None,), [(None,), (None,)], True), told)
+        self.assertEqual((rows[0], rows[-2:], (YOUNGEST,) in rows), ((None,), [(None,), (None,)], True), rows)
 
     def test_by_a_rollback_of_another_statements_record(self):
         # A dump that is taken back: no trigger keeps its record from being written yet.
@@ -164,14 +164,14 @@ class Looks(Case):
 
     def looks(self, base, count):
         """The statements that are run beside the inserts of a transaction."""
-        told = []
+        statements = []
         base.execute("BEGIN")
-        base.set_trace_callback(told.append)
+        base.set_trace_callback(statements.append)
         base.executemany("INSERT INTO account VALUES (?)", ((f"{MARKED}{at}",) for at in range(count)))
         base.set_trace_callback(None)
         base.execute("COMMIT")
         base.execute("DELETE FROM account")
-        return [text for text in told if not text.startswith("INSERT INTO account")]
+        return [text for text in statements if not text.startswith("INSERT INTO account")]
 
     def test_a_load_looks_once(self):
         base = self.with_names(OLD)
@@ -186,26 +186,26 @@ class Looks(Case):
         self.assertLessEqual(len(self.looks(self.connect(), 500)), 8, "of a fresh connection")
 
     def test_a_load_in_the_transaction_of_a_raise_looks_once(self):
-        base, told = self.with_names(OLD), []
+        base, statements = self.with_names(OLD), []
         base.execute("BEGIN")
         base.execute("SELECT npss_raise(?)", (NEW,))
-        base.set_trace_callback(told.append)
+        base.set_trace_callback(statements.append)
         base.executemany("INSERT INTO account VALUES (?)", ((f"{MARKED}{at}",) for at in range(50)))
         base.set_trace_callback(None)
-        self.assertLessEqual(len(told), 50 + 8, told)
+        self.assertLessEqual(len(statements), 50 + 8, statements)
 
     def test_a_reader_behind_a_raise_looks_once_where_nothing_is_told(self):
-        base, told = self.with_names(OLD), []
+        base, statements = self.with_names(OLD), []
         base.execute("CREATE TABLE npss_watch (name TEXT)")
         base.executemany("INSERT INTO account VALUES (?)", ((f"{MARKED}{at}",) for at in range(50)))
         base.execute("BEGIN")
         base.execute("SELECT npss_raise(?)", (NEW,))
         base.execute("COMMIT")
         base.execute("BEGIN")
-        base.set_trace_callback(told.append)
+        base.set_trace_callback(statements.append)
         self.assertEqual(len(base.execute("SELECT npss_nfc(name) FROM account").fetchall()), 50)
         base.set_trace_callback(None)
-        self.assertLessEqual(len(told), 10, told)
+        self.assertLessEqual(len(statements), 10, statements)
 
     def test_a_statement_without_tables_keeps_no_transaction_open(self):
         # What it reads there it would hold to its end: another's commit would be in the way of its own.
@@ -278,7 +278,7 @@ class Attached(Case):
 
     def test_in_memory(self):
         base = self.with_names(NEW)
-        for version, told in ((NEW, True), (OLD, False), (NEW, True)):
+        for version, fits in ((NEW, True), (OLD, False), (NEW, True)):
             base.execute("ATTACH ':memory:' AS other")
             base.execute("CREATE TABLE other.npss_record (one INTEGER, assigned INTEGER, data BLOB, exclusions BLOB)")
             base.execute("INSERT INTO other.npss_record VALUES (1, 0, ?, ?)", [Path(version, name).read_bytes() for name in FILES])
@@ -287,7 +287,7 @@ class Attached(Case):
             for begins in ("SELECT 1", "BEGIN"):
                 base.execute(begins)
                 for name in (MARKED, MARKED + "a"):
-                    if told:
+                    if fits:
                         base.execute("INSERT INTO other.account VALUES (?)", (name,))
                     else:
                         self.refused("records another version", base, "INSERT INTO other.account VALUES (?)", name)
@@ -295,12 +295,12 @@ class Attached(Case):
             base.execute("DETACH other")
 
     def test_is_compared_once(self):
-        base, told = self.attached(NEW), []
-        base.set_trace_callback(told.append)
+        base, statements = self.attached(NEW), []
+        base.set_trace_callback(statements.append)
         for at in range(20):
             base.execute("INSERT INTO other.account VALUES (?)", (f"{MARKED}{at}",))
         base.set_trace_callback(None)
-        self.assertEqual(sum("a.data = b.data" in text for text in told), 1)
+        self.assertEqual(sum("a.data = b.data" in text for text in statements), 1)
         # What another connection does to it is looked at.
         beside = self.connect(self.beside)
         for name in ("insert", "update", "delete"):

@@ -143,13 +143,13 @@ class Undone(Folded):
 
     def test_a_savepoint_within_a_load_is_no_rollback_of_the_record(self):
         # The record was read before the savepoint, so what is rolled back to that leaves it, and no statement reads it anew.
-        base, told = self.with_accounts(self.room / "v2"), []
+        base, statements = self.with_accounts(self.room / "v2"), []
         base.execute("BEGIN")
         base.execute("SAVEPOINT outer")
         base.execute("SELECT npss_raise(?)", (str(self.room / "v2"),))
         base.execute("INSERT INTO account VALUES ('A')")
         base.execute("RELEASE outer")
-        base.set_trace_callback(told.append)
+        base.set_trace_callback(statements.append)
         for at in range(20):
             base.execute("SAVEPOINT here")
             base.execute("INSERT INTO account VALUES (?)", (chr(0xAC00 + at),))
@@ -158,23 +158,23 @@ class Undone(Folded):
             base.execute("ROLLBACK TO here")
             base.execute("RELEASE here")
         base.set_trace_callback(None)
-        self.assertEqual(sum("data, exclusions" in text for text in told), 0, told)
+        self.assertEqual(sum("data, exclusions" in text for text in statements), 0, statements)
         self.assertEqual(self.asked(base, "npss_caseless_key('A')"), "a")
         base.execute("COMMIT")
 
     def test_what_a_transaction_leaves_is_not_read_anew(self):
-        base, told = self.with_accounts(self.room / "v2"), []
+        base, statements = self.with_accounts(self.room / "v2"), []
         base.execute("BEGIN")
         base.execute("SELECT npss_raise(?)", (str(self.room / "v2"),))
         base.execute("INSERT INTO account VALUES ('A')")
         base.execute("COMMIT")
-        base.set_trace_callback(told.append)
+        base.set_trace_callback(statements.append)
         for ends in ("COMMIT", "ROLLBACK", "COMMIT"):
             base.execute("BEGIN")
-            base.execute("INSERT INTO account VALUES (?)", (chr(0xAC00 + len(told)),))
+            base.execute("INSERT INTO account VALUES (?)", (chr(0xAC00 + len(statements)),))
             base.execute(ends)
         base.set_trace_callback(None)
-        self.assertEqual(sum("data, exclusions" in text for text in told), 0, told)
+        self.assertEqual(sum("data, exclusions" in text for text in statements), 0, statements)
 
     def test_where_the_table_that_is_told_may_not_be_used(self):
         # Another table has its name, or an authorizer keeps it away: each key looks at the record.

@@ -9,7 +9,7 @@ typedef struct table {
     connection *owner; /* whose user it is: SQLite may be done with the module before it */
 } table;
 
-static watch *told_of(sqlite3_vtab *at) {
+static watch *watch_of(sqlite3_vtab *at) {
     return &((table *)at)->owner->watch;
 }
 
@@ -19,7 +19,7 @@ static int connects(sqlite3 *db, void *held, int count, const char *const *given
     table *self;
     int code = sqlite3_vtab_config(db, SQLITE_VTAB_DIRECTONLY);
     (void)count, (void)given, (void)error;
-    if (code == SQLITE_OK) code = sqlite3_declare_vtab(db, "CREATE TABLE npss_watch (told)");
+    if (code == SQLITE_OK) code = sqlite3_declare_vtab(db, "CREATE TABLE npss_watch (nothing)");
     if (code != SQLITE_OK) return code;
     if (!(self = sqlite3_malloc(sizeof *self))) return SQLITE_NOMEM;
     *self = (table){{0}, held};
@@ -30,10 +30,10 @@ static int connects(sqlite3 *db, void *held, int count, const char *const *given
 }
 
 static int disconnects(sqlite3_vtab *at) {
-    watch *told = told_of(at);
-    sqlite3_finalize(told->kept);
-    told->kept = NULL;
-    told->is_connected = 0;
+    watch *watched = watch_of(at);
+    sqlite3_finalize(watched->kept);
+    watched->kept = NULL;
+    watched->is_connected = 0;
     release(((table *)at)->owner);
     sqlite3_free(at);
     return SQLITE_OK;
@@ -89,45 +89,45 @@ static int updates(sqlite3_vtab *at, int count, sqlite3_value **given, sqlite3_i
 /* ---- what it is told */
 
 static int begins(sqlite3_vtab *at) {
-    watch *told = told_of(at);
-    told->takes_part = 1;
-    told->depth = 0;
-    told->turns++;
+    watch *watched = watch_of(at);
+    watched->takes_part = 1;
+    watched->depth = 0;
+    watched->turns++;
     return SQLITE_OK;
 }
 
 static int commits(sqlite3_vtab *at) {
-    told_of(at)->takes_part = told_of(at)->taken = 0;
+    watch_of(at)->takes_part = watch_of(at)->read_depth = 0;
     return SQLITE_OK;
 }
 
 static int rolls_back(sqlite3_vtab *at) {
-    watch *told = told_of(at);
-    if (told->taken) told->is_undone = 1;
-    told->undone++;
+    watch *watched = watch_of(at);
+    if (watched->read_depth) watched->is_undone = 1;
+    watched->undone++;
     return commits(at);
 }
 
 /* A savepoint begins, whose number is how many there were. */
 static int saves(sqlite3_vtab *at, int number) {
-    told_of(at)->depth = number + 1;
-    told_of(at)->turns++;
+    watch_of(at)->depth = number + 1;
+    watch_of(at)->turns++;
     return SQLITE_OK;
 }
 
 /* A savepoint ends: what was done within it belongs to the one around. */
 static int releases(sqlite3_vtab *at, int number) {
-    watch *told = told_of(at);
-    told->depth = number;
-    if (told->taken > number + 1) told->taken = number + 1;
+    watch *watched = watch_of(at);
+    watched->depth = number;
+    if (watched->read_depth > number + 1) watched->read_depth = number + 1;
     return SQLITE_OK;
 }
 
 static int rolls_back_to(sqlite3_vtab *at, int number) {
-    watch *told = told_of(at);
-    if (told->taken > number + 1) told->is_undone = 1;
-    told->undone++;
-    told->depth = number + 1;
+    watch *watched = watch_of(at);
+    if (watched->read_depth > number + 1) watched->is_undone = 1;
+    watched->undone++;
+    watched->depth = number + 1;
     return SQLITE_OK;
 }
 
@@ -149,20 +149,20 @@ int is_watched(connection *self) {
 }
 
 /* Remembers that the tables in use were read at this place of the transaction. */
-void take(connection *self) {
+void note_read(connection *self) {
     self->watch.is_undone = 0;
-    self->watch.taken = is_watched(self) ? self->watch.depth + 1 : 0;
+    self->watch.read_depth = is_watched(self) ? self->watch.depth + 1 : 0;
 }
 
 /* Whether a database may have been detached, or a change of a schema rolled back, since this was asked before: then SQLite makes each
  * statement anew. The statement is kept while the table is connected, since a connection with statements isn't closed. */
 int may_be_detached(connection *self) {
     sqlite3_int64 none;
-    watch *told = &self->watch;
-    if (!told->is_connected) ask_number(self->db, "SELECT 1 FROM main.npss_watch", &none);
-    if (told->is_connected && !told->kept && sqlite3_prepare_v2(self->db, "SELECT 1", -1, &told->kept, NULL) == SQLITE_OK) return 1;
-    if (!told->kept) return 1;
-    sqlite3_step(told->kept);
-    sqlite3_reset(told->kept);
-    return sqlite3_stmt_status(told->kept, SQLITE_STMTSTATUS_REPREPARE, 1) > 0;
+    watch *watched = &self->watch;
+    if (!watched->is_connected) ask_number(self->db, "SELECT 1 FROM main.npss_watch", &none);
+    if (watched->is_connected && !watched->kept && sqlite3_prepare_v2(self->db, "SELECT 1", -1, &watched->kept, NULL) == SQLITE_OK) return 1;
+    if (!watched->kept) return 1;
+    sqlite3_step(watched->kept);
+    sqlite3_reset(watched->kept);
+    return sqlite3_stmt_status(watched->kept, SQLITE_STMTSTATUS_REPREPARE, 1) > 0;
 }

@@ -56,18 +56,18 @@ class Machine:
         while time.monotonic() < until:
             time.sleep(0.2)
             if self.nspawn.poll() is not None:
-                return f"systemd-nspawn ended with status {self.nspawn.returncode}: {' '.join(self.told().split())[-300:]}"
+                return f"systemd-nspawn ended with status {self.nspawn.returncode}: {' '.join(self.console_text().split())[-300:]}"
             self.leader = self._child()
             if self.leader and self.run("systemctl", "is-system-running")[1].strip() in ("running", "degraded"):
                 return ""
-        return f"no boot within {BOOTING} seconds: {' '.join(self.told().split())[-300:]}"
+        return f"no boot within {BOOTING} seconds: {' '.join(self.console_text().split())[-300:]}"
 
     def _child(self):
         """The process that is the machine's first, or nothing while there is none."""
         children = Path(f"/proc/{self.nspawn.pid}/task/{self.nspawn.pid}/children").read_text(encoding="ascii").split()
         return children[0] if children else None
 
-    def told(self):
+    def console_text(self):
         """What the machine's console has."""
         return re.sub(r"\x1b\[[0-9;]*m", "", self.log.read_text(encoding="utf-8", errors="replace"))
 

@@ -64,7 +64,7 @@ PAIRS = [(1, "\uA7F2", "C"), (1, "\U00010783", "\u00e6"), (1, "x\U000107A5\u0301
 LAST = 10
 
 
-class Told:
+class Answers:
     """What nodes answered, for the end: each name that is registered for sure, and each that may have been given up."""
 
     def __init__(self):
@@ -128,7 +128,7 @@ class Node(threading.Thread):
             answer = self.read()
         except (BrokenPipeError, ValueError):
             answer = None
-        self.chaos.told.add(self.number, begun, asked, answer)
+        self.chaos.answers.add(self.number, begun, asked, answer)
         if answer and answer["what"] == "registered" and asked["do"] == "claim":
             self.mine.append(asked["name"])
         return answer
@@ -137,7 +137,7 @@ class Node(threading.Thread):
         if self.process:
             with contextlib.suppress(BrokenPipeError):  # what it died of is told by its answer, which is missing
                 self.process.stdin.close()
-            self.chaos.told.end(self.process.wait())
+            self.chaos.answers.end(self.process.wait())
             self.process.stdout.close()
 
     def drawn(self):
@@ -149,13 +149,13 @@ class Node(threading.Thread):
         if chance < 0.14:
             name = self.paired()
         elif chance < 0.22:
-            name = source.choice(self.chaos.told.forgets[-LAST:] or [name])
+            name = source.choice(self.chaos.answers.forgets[-LAST:] or [name])
         elif chance < 0.36:
             name = self.cased(f"now {int(time.time() * 4)}")  # what other nodes claim as well
         if chance < 0.62:
             return {"do": "claim", "name": name, "owner": source.choice("abc")}
         if chance < 0.76:
-            registered = self.chaos.told.registered[-LAST:]
+            registered = self.chaos.answers.registered[-LAST:]
             return {"do": "forget", "name": source.choice(registered)[0] if registered and chance < 0.67 else name}
         if chance < 0.86:
             return {"do": "read"}
@@ -203,7 +203,7 @@ class Chaos:
     def __init__(self, folder, words):
         self.folder = folder
         self.source = random.Random(words.seed)
-        self.told = Told()
+        self.answers = Answers()
         self.pool = NAMES + CASES * words.caseless
         # Names of old code points, each with the version that has a young one of its key, which was claimed somewhere.
         self.old = []
@@ -284,15 +284,15 @@ class Chaos:
 
     def pauses(self):
         """How many seconds behind each end of whoever takes records one was taken again."""
-        taken = self.probe.taken
-        return [min(ended for begun, ended in taken if begun >= death) - death for death in self.servers.deaths if taken and taken[-1][0] >= death]
+        appends = self.probe.appends
+        return [min(ended for begun, ended in appends if begun >= death) - death for death in self.servers.deaths if appends and appends[-1][0] >= death]
 
     def judge_meanwhile(self):
         """The judge has to be silent while nodes work, end and are upgraded."""
         try:
             judge = Judge(self.stores(), self.program)
             try:
-                self.told.broken += judge.run()
+                self.answers.broken += judge.run()
             finally:
                 judge.close()
             self.judged += 1
@@ -354,7 +354,7 @@ def check_keys(tally, chaos, rows, program):
 
 def check_history(tally, chaos, rows, program):
     """What was answered over time can be."""
-    history = chaos.told.history
+    history = chaos.answers.history
     names = history.names()
     keys = keys_of(names, lines_of(chaos, names, program, chaos.setup.caseless))
     if tally.check("each name that was answered has a key", keys is not None, names[:5]):
@@ -364,9 +364,9 @@ def check_history(tally, chaos, rows, program):
 def check(tally, chaos, program):
     """What has to hold in the end."""
     found = finished(chaos)
-    tally.same("no node found the log broken", chaos.told.broken, [])
+    tally.same("no node found the log broken", chaos.answers.broken, [])
     tally.check("each node opens in the end", None not in found, found)
-    rows = [told["rows"] for told in found if told]
+    rows = [answer["rows"] for answer in found if answer]
     for number, other in enumerate(rows[1:], start=1):
         tally.same(f"nodes 0 and {number} register the same", other, rows[0])
     tally.same("nothing is parked under the last version", [row for row in rows[0] if row[4]], [])
@@ -380,9 +380,9 @@ def check(tally, chaos, program):
     check_trimmed(tally, chaos, rows[0])
     check_log_faults(tally, chaos, program)
     check_lost_tail(tally, chaos)
-    answers = chaos.told.history
+    answers = chaos.answers.history
     print(f"{len(answers.registered)} claims answered registered, {len(answers.forgotten)} forgets, {len(answers.found)} names found at their node")
-    print(f"{chaos.judged} times judged meanwhile; in the end {judge.events} events replayed, {len(rows[0])} names registered, {chaos.told.ends} times a node ended itself")
+    print(f"{chaos.judged} times judged meanwhile; in the end {judge.events} events replayed, {len(rows[0])} names registered, {chaos.answers.ends} times a node ended itself")
 
 
 def main():

@@ -163,9 +163,9 @@ def check_brought_back(tally, chaos):
     node = Registry(str(path))
     log = Log(chaos, node.store.log.partition("#")[2] or Path(node.store.log).name)
     kept = log.keep()
-    told = node.claim("brought back", "k")
+    outcome = node.claim("brought back", "k")
     node.close()
-    if told.new:
+    if outcome.new:
         log.bring_back(kept)
         check_broken(tally, "a log that was brought back older", lambda: Registry(str(path)))
 

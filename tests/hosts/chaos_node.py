@@ -86,9 +86,9 @@ def hooked(ends, source, repeated=REPEATED):
         log.begin, log.keep, log.trim = map(counted, others)
 
 
-def outcome(told):
-    holder = told.holder
-    return {"what": told.what, "place": holder and holder.place, "string": holder and holder.string}
+def outcome_fields(outcome):
+    holder = outcome.holder
+    return {"what": outcome.what, "place": holder and holder.place, "string": holder and holder.string}
 
 
 def rows_of(registry):
@@ -101,9 +101,9 @@ def done(registry, asked):
     """What a request comes to."""
     what = asked["do"]
     if what == "claim":
-        return outcome(registry.claim(asked["name"], asked["owner"]))
+        return outcome_fields(registry.claim(asked["name"], asked["owner"]))
     if what == "forget":
-        return outcome(registry.forget(asked["name"]))
+        return outcome_fields(registry.forget(asked["name"]))
     if what == "read":
         registry.catch_up()
         return {"what": "read"}
@@ -136,10 +136,10 @@ def main():
     print(json.dumps({"what": "opened"}), flush=True)
     for line in sys.stdin:
         try:
-            told = answer(registry, json.loads(line))
+            reply = answer(registry, json.loads(line))
         except LogBroken as error:
-            told = {"what": "broken", "why": str(error)}
-        print(json.dumps(told), flush=True)
+            reply = {"what": "broken", "why": str(error)}
+        print(json.dumps(reply), flush=True)
     registry.close()
 
 

@@ -167,12 +167,12 @@ class Members(Etcd):
     def settle(self):
         waited(lambda: self.leader() is not None)
 
-    def _asked(self, path, told):
+    def _asked(self, path, request):
         """What some member answers."""
         answers = []
 
         def ask():
-            answers[:] = [answer for number in range(3) if (answer := self.ask(number, path, told)) is not None][:1]
+            answers[:] = [answer for number in range(3) if (answer := self.ask(number, path, request)) is not None][:1]
             return answers
 
         waited(ask)
@@ -203,7 +203,7 @@ class Probe(threading.Thread):
     def __init__(self, name, end):
         super().__init__()
         self._name, self._end = name, end
-        self.taken = []
+        self.appends = []
 
     def run(self):
         log = None
@@ -212,7 +212,7 @@ class Probe(threading.Thread):
             try:
                 log = log or open_log(self._name, "make")
                 log.append([(0, b"probe")])
-                self.taken.append((begun, time.monotonic()))
+                self.appends.append((begun, time.monotonic()))
             except LogAway:
                 pass
             time.sleep(0.1)

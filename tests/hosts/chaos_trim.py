@@ -41,17 +41,17 @@ class Trims(threading.Thread):
         words = [sys.executable, __file__, number, self.source.randint(0, 1), patience, self.chaos.program, *self.chaos.stores()]
         ran = subprocess.run(list(map(str, words)), stdin=subprocess.DEVNULL, stdout=subprocess.PIPE, stderr=subprocess.PIPE, text=True, check=False)
         if ran.returncode == 0:
-            self.chaos.told.broken += json.loads(ran.stdout)["findings"]
+            self.chaos.answers.broken += json.loads(ran.stdout)["findings"]
             self.done += 1
         elif ran.returncode not in (5, 9):
-            self.chaos.told.broken.append(f"a trim ended with status {ran.returncode}: {ran.stderr[-400:]}")
+            self.chaos.answers.broken.append(f"a trim ended with status {ran.returncode}: {ran.stderr[-400:]}")
         return ran.returncode == 0
 
 
 def check_trimmed(tally, chaos, rows):
     """The log is trimmed once more; a store that is made behind it registers the same as the others."""
     meanwhile = chaos.trims.done
-    tally.check("the log is trimmed in the end", any(chaos.trims.trim(0, IN_THE_END) for _ in range(3)), chaos.told.broken)
+    tally.check("the log is trimmed in the end", any(chaos.trims.trim(0, IN_THE_END) for _ in range(3)), chaos.answers.broken)
     path, version = str(chaos.folder / "anew"), Version(*(Path(name).read_bytes() for name in chaos.files[-1]))
     init(path, version, None, chaos.servers.name("chaos"))
     node = Registry(path)
@@ -61,7 +61,7 @@ def check_trimmed(tally, chaos, rows):
     judge = Judge([*chaos.stores(), path], chaos.program)
     tally.same("the judge behind a trim", judge.run(), [])
     judge.close()
-    tally.same("no store lacked what was trimmed", chaos.told.broken, [])
+    tally.same("no store lacked what was trimmed", chaos.answers.broken, [])
     print(f"{meanwhile} times trimmed meanwhile")
 
 

@@ -7,7 +7,7 @@ import select
 import shutil
 import time
 
-from harness import told
+from harness import output_of
 
 # What is typed, and what completes it.
 ROWS = (("npss", "npss k", "key"), ("npss", "npss key --form nfkc --c", "--check-under"), ("npss_lines", "npss_lines --form nfk", "nfkc nfkd"),
@@ -25,12 +25,12 @@ def by_bash(tally, root, name, typed):
     words = " ".join(f"'{word}'" for word in typed.split())
     script = (f'source "$0"; COMP_WORDS=({words}); COMP_CWORD=$((${{#COMP_WORDS[@]}} - 1)); _{name.replace("-", "_")}; '
               'echo "${COMPREPLY[@]}"')
-    return told(tally, f"bash completes {typed!r}", ["bash", "-c", script, root.folder / BASH / name]).split()
+    return output_of(tally, f"bash completes {typed!r}", ["bash", "-c", script, root.folder / BASH / name]).split()
 
 
 def by_fish(tally, root, name, typed):
     script = f"source {root.folder / FISH}/{name}.fish; complete -C '{typed}'"
-    return [line.partition("\t")[0] for line in told(tally, f"fish completes {typed!r}", ["fish", "--no-config", "-c", script]).splitlines()]
+    return [line.partition("\t")[0] for line in output_of(tally, f"fish completes {typed!r}", ["fish", "--no-config", "-c", script]).splitlines()]
 
 
 def by_zsh(_, root, name, typed):

@@ -112,12 +112,12 @@ def check_common(tally, prefix, room):
     if not tally.check("what the extensions share is built", built.returncode == 0, built.stdout):
         return
     ran = subprocess.run([program, *words, *labels], stdout=subprocess.PIPE, stderr=subprocess.STDOUT, text=True, check=False)
-    told = dict(line.split("\t", 1) for line in ran.stdout.splitlines())
+    answers = dict(line.split("\t", 1) for line in ran.stdout.splitlines())
     wanted = wanted_of_common()
-    tally.same("what the extensions share tells", (ran.returncode, {name: told.get(name) for name in wanted}), (0, wanted))
+    tally.same("what the extensions share tells", (ran.returncode, {name: answers.get(name) for name in wanted}), (0, wanted))
     tally.check("the pages have all names", sum("unknown" not in text for name, text in wanted.items() if name.startswith(("break", "data", "tables", "folding"))) >= 33, wanted)
-    tally.same("forms by their words", {word: int(told[f"word {word}"].split()[0]) for word in words}, words)
-    tally.same("labels of versions", {word: int(told[f"word {word}"].split()[1]) for word in labels}, labels)
+    tally.same("forms by their words", {word: int(answers[f"word {word}"].split()[0]) for word in words}, words)
+    tally.same("labels of versions", {word: int(answers[f"word {word}"].split()[1]) for word in labels}, labels)
 
 
 def check_sqlite(tally, prefix, versions, room):
@@ -163,11 +163,11 @@ def check_release(tally, room):
     listed = subprocess.run(["sha256sum", "-c", "--quiet", "released"], cwd=scripts, stdout=subprocess.PIPE, stderr=subprocess.STDOUT, text=True, check=False)
     tally.same("its scripts are listed as released", (listed.returncode, listed.stdout, {line.split()[1] for line in (scripts / "released").read_text().splitlines()}),
                (0, "", {name for name in before if name.endswith(".sql")}))
-    for name, told in (("npss--0.2.sql", "npss--0.2.sql isn't as it was released"), ("npss--0.2--0.3.sql", "no script leads from version 0.2 to")):
+    for name, why in (("npss--0.2.sql", "npss--0.2.sql isn't as it was released"), ("npss--0.2--0.3.sql", "no script leads from version 0.2 to")):
         kept = (scripts / name).read_bytes()
         (scripts / name).write_bytes(kept + b"-- more\n") if name.count("--") == 1 else (scripts / name).unlink()
         status, written = run_release(copy, "--write")
-        tally.check(f"a release is refused where {name} was changed or is gone", status == 1 and told in written, written)
+        tally.check(f"a release is refused where {name} was changed or is gone", status == 1 and why in written, written)
         (scripts / name).write_bytes(kept)
 
 

@@ -60,13 +60,13 @@ class Move:
     def same(self, what, got, want):
         return self.tally.same(f"{self.title}: {what}", got, want)
 
-    def filled(self, what, status, told, *folding):
+    def filled(self, what, status, lines, *folding):
         """A run of the program, perhaps with a folding file, and how long it took."""
         begun = time.monotonic()
         words = [sys.executable, PROGRAM, self.store.address, FORM, *self.files, *folding]
         done = subprocess.run(list(map(str, words)), stdout=subprocess.PIPE, stderr=subprocess.PIPE, text=True, check=False)
         took = time.monotonic() - begun
-        self.same(what, (done.returncode, done.stdout.splitlines(), done.stderr), (status, told, ""))
+        self.same(what, (done.returncode, done.stdout.splitlines(), done.stderr), (status, lines, ""))
         return took
 
     def brought_under_keys(self):
@@ -95,7 +95,7 @@ class Move:
 
     def refusals(self):
         """What the unique index and the check refuse, and what they don't."""
-        told, rows = [], self.store.run
+        outcomes, rows = [], self.store.run
         new, taken = "\ufb01n", "Jose\u0301 0\u0430\uac00"
         for what, text, values, want in (
                 ("a name comes without its key", "INSERT INTO account (name) VALUES (%s)", (new,), "check"),
@@ -110,8 +110,8 @@ class Move:
                 ("a space behind makes another name", WRITE, ("fin ", "fin ", "fin "), None),
                 ("another case makes another name", WRITE, ("Fin", "Fin", "Fin"), None),
                 ("a mark makes another name", WRITE, ("f\u00efn", "f\u00efn", "f\u00efn"), None)):
-            told.append((what, self.store.ended(text, *values), want))
-        self.same("what is refused", [(what, got) for what, got, _ in told], [(what, want) for what, _, want in told])
+            outcomes.append((what, self.store.ended(text, *values), want))
+        self.same("what is refused", [(what, got) for what, got, _ in outcomes], [(what, want) for what, _, want in outcomes])
         self.same("names beside one another", sorted(key for key, in rows("SELECT name_key FROM account WHERE name_key IN ('fin', 'fin ', 'Fin', 'f\u00efn')")),
                   ["Fin", "fin", "fin ", "f\u00efn"])
         look = "SELECT id FROM account WHERE name_key = %s"

@@ -62,8 +62,8 @@ def check_pages(tally, machine):
 
 def active(machine):
     """What systemd says of the service, and its process."""
-    told = machine.run("systemctl", "show", "-p", "ActiveState,MainPID,NeedDaemonReload", UNIT)[1]
-    return dict(line.partition("=")[::2] for line in told.splitlines())
+    output = machine.run("systemctl", "show", "-p", "ActiveState,MainPID,NeedDaemonReload", UNIT)[1]
+    return dict(line.partition("=")[::2] for line in output.splitlines())
 
 
 def asked(machine, path, body=""):

@@ -67,12 +67,12 @@ def check_dask(tally, room, site, files, wanted):
     for workers in (1, 2, 4):
         since = time.monotonic()
         words = [SYSTEM_PYTHON, ROOT / "examples" / "on_dask.py", "--workers", workers, "--block", block, "nfkc", *files, room / "names", room / "dask"]
-        status, told = ran(words, env=environment, cwd=room)
+        status, output = ran(words, env=environment, cwd=room)
         print(f"Dask, {workers} workers, its start included: {time.monotonic() - since:.1f} s")
-        tally.check(f"Dask by {workers} workers", status == 0 and (room / "dask").read_bytes() == wanted, told[-600:])
+        tally.check(f"Dask by {workers} workers", status == 0 and (room / "dask").read_bytes() == wanted, output[-600:])
         (room / "dask").unlink(missing_ok=True)
-    status, told = ran([SYSTEM_PYTHON, ROOT / "tests" / "hosts" / "machines" / "killed.py", block, *files, room / "names", room / "dask"], env=environment, cwd=room)
-    tally.check("Dask where a worker is killed", status == 0 and (room / "dask").read_bytes() == wanted, told[-600:])
+    status, output = ran([SYSTEM_PYTHON, ROOT / "tests" / "hosts" / "machines" / "killed.py", block, *files, room / "names", room / "dask"], env=environment, cwd=room)
+    tally.check("Dask where a worker is killed", status == 0 and (room / "dask").read_bytes() == wanted, output[-600:])
 
 
 def check_parallel(tally, room, program, files, wanted):
@@ -86,8 +86,8 @@ def check_parallel(tally, room, program, files, wanted):
         logins = [word for login in hosts.logins() for word in ("--sshlogin", f"4/{login}")]
         command = " ".join(map(str, [program, "--form", "nfkc", *files]))
         words = ["parallel", "--will-cite", "--pipepart", "-k", "-a", room / "names", "--block", "200k", *logins, command]
-        status, told = ran(words, env={**os.environ, "HOME": str(room)})
-        tally.check("GNU parallel over two hosts", status == 0 and told == wanted, f"{status} {len(told)} of {len(wanted)}: {told[-300:]!r}")
+        status, output = ran(words, env={**os.environ, "HOME": str(room)})
+        tally.check("GNU parallel over two hosts", status == 0 and output == wanted, f"{status} {len(output)} of {len(wanted)}: {output[-300:]!r}")
         tally.check("both hosts took part", all(hosts.served()), str(hosts.served()))
 
 
@@ -116,8 +116,8 @@ def main():
             print("skipped: Dask: python3-distributed is missing")
         else:
             build = [sys.executable, ROOT / "bindings" / "python" / "build.py", "--prefix", words.prefix, room / "site"]
-            status, told = ran(build)
-            if tally.check("the module for Python is built", status == 0, told):
+            status, output = ran(build)
+            if tally.check("the module for Python is built", status == 0, output):
                 check_dask(tally, room, room / "site", files, wanted)
         if [one for one in lacks if one != "distributed"]:
             print(f"skipped: GNU parallel over hosts: missing: {' '.join(lacks)}")

@@ -29,7 +29,7 @@ sys.path.insert(0, str(Path(__file__).resolve().parent.parent))
 
 from hosts import lives, roots
 from hosts.completing import check_completion
-from harness import ROOT, Tally, install, told
+from harness import ROOT, Tally, install, output_of
 from hosts.packed_registry import check_registry, check_service
 from hosts.releasing import check_versions, copied_tree, next_release
 from hosts.roots import COMPATIBLE, FILES, KEY, TEXT, UNICODE
@@ -107,14 +107,14 @@ def check_contents(tally, prefix, made, version, room):
         tally.same("packages for Debian", sorted(debian), sorted(DEBIAN))
         (room / "unpacked").mkdir()
         for name, path in debian.items():
-            tally.same(f"{name}: its version", told(tally, f"{name}: dpkg-deb", ["dpkg-deb", "-f", path, "Version"]).strip(), version)
-            told(tally, f"{name} is unpacked", ["dpkg-deb", "-x", path, room / "unpacked" / name])
+            tally.same(f"{name}: its version", output_of(tally, f"{name}: dpkg-deb", ["dpkg-deb", "-f", path, "Version"]).strip(), version)
+            output_of(tally, f"{name} is unpacked", ["dpkg-deb", "-x", path, room / "unpacked" / name])
     wheel = made / f"npss-{version}-cp310-abi3-manylinux_2_17_{machine}.whl"
     others = [path.name for path in made.iterdir() if path.suffix != ".deb"]
     tally.same("the other files", sorted(others), sorted(["SHA256SUMS", f"npss-{version}-linux-{machine}.tar.gz",
                                                           *([wheel.name] if any(made.glob("*.whl")) else [])]))
-    told(tally, "the sums are right", ["sha256sum", "--strict", "-c", "SHA256SUMS"], cwd=made)
-    told(tally, "the tarball is unpacked", ["tar", "-xf", made / f"npss-{version}-linux-{machine}.tar.gz", "-C", room])
+    output_of(tally, "the sums are right", ["sha256sum", "--strict", "-c", "SHA256SUMS"], cwd=made)
+    output_of(tally, "the tarball is unpacked", ["tar", "-xf", made / f"npss-{version}-linux-{machine}.tar.gz", "-C", room])
     tarball = room / f"npss-{version}"
     proved = (tarball / "PROVED").read_text(encoding="utf-8")
     for name in debian:
@@ -146,7 +146,7 @@ def check_lintian(tally, made):
     words = ["lintian", "--display-info", "--pedantic", "--fail-on", "error,warning,info", "--allow-root", *sorted(made.glob("*.deb"))]
     # It leaves its temporary files behind.
     with tempfile.TemporaryDirectory() as room:
-        tally.same("lintian", told(tally, "lintian ends well", words, env={**os.environ, "LC_ALL": "C.UTF-8", "TMPDIR": room}), "")
+        tally.same("lintian", output_of(tally, "lintian ends well", words, env={**os.environ, "LC_ALL": "C.UTF-8", "TMPDIR": room}), "")
     for path in (ROOT / "packaging" / "debian").glob("*.lintian-overrides"):
         lines = path.read_text(encoding="utf-8").splitlines()
         tally.check(f"{path.name}: each override has its reason", lines[0].startswith("# "), lines[0])
@@ -161,8 +161,8 @@ def compiled(tally, name, flags, to, **environment):
     """The program for C, built by what pkg-config tells."""
     source = to.with_suffix(".c")
     source.write_text(program_of_page(), encoding="utf-8")
-    told_flags = told(tally, f"{name}: pkg-config", ["pkg-config", *flags, "--cflags", "--libs", "npss"], env={**os.environ, **environment})
-    return told(tally, f"{name}: cc", ["cc", source, "-o", to, *told_flags.split()]) == "" and to.exists()
+    build_flags = output_of(tally, f"{name}: pkg-config", ["pkg-config", *flags, "--cflags", "--libs", "npss"], env={**os.environ, **environment})
+    return output_of(tally, f"{name}: cc", ["cc", source, "-o", to, *build_flags.split()]) == "" and to.exists()
 
 
 def newest_glibc(path):
@@ -182,7 +182,7 @@ def check_tarball(tally, tarball, room):
         tally.check("the tarball wants no newer glibc than docs/INSTALL.md tells", wanted <= tuple(map(int, promised.groups())), wanted)
     if shutil.which("cc") and shutil.which("pkg-config") and compiled(tally, "the tarball", [], room / "of-tarball",
                                                                     PKG_CONFIG_PATH=str(tarball / "lib/pkgconfig")):
-        written = told(tally, "the tarball's library", [room / "of-tarball", *files], env={"LD_LIBRARY_PATH": str(tarball / "lib")})
+        written = output_of(tally, "the tarball's library", [room / "of-tarball", *files], env={"LD_LIBRARY_PATH": str(tarball / "lib")})
         tally.same("a key by the tarball's library", written, "\u1ead\n")
 
 
@@ -226,7 +226,7 @@ def check_c(tally, root, room):
     if compiled(tally, "C", [], room / "first", **where, **system):
         root.put(room / "first", "tmp", "first")
         check_c_again(tally, root, "C")
-        wants = told(tally, "readelf", ["readelf", "-d", room / "first"])
+        wants = output_of(tally, "readelf", ["readelf", "-d", room / "first"])
         tally.check("it wants the shared library", "libnpss.so.0" in wants, wants)
 
 
@@ -344,7 +344,7 @@ def main():
         room = Path(name)
         room.chmod(0o755)
         prefix = named[0] if named else room / "built"
-        if named or told(tally, "./build-c", [ROOT / "build-c", *flags, prefix]):
+        if named or output_of(tally, "./build-c", [ROOT / "build-c", *flags, prefix]):
             check_all(tally, prefix, release, room, pool)
     tally.finish()
 

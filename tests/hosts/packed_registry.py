@@ -5,7 +5,7 @@ import shutil
 import socket
 from pathlib import Path
 
-from harness import told
+from harness import output_of
 from hosts.roots import COMPATIBLE, FILES, FOLDING, KEY, TEXT
 
 # The service of the registry, what it works with where systemd doesn't start it, and the most exposure by systemd's own measure.
@@ -74,5 +74,5 @@ def check_service(tally, root, room):
         return
     # The program isn't on this machine, nor are systemd's own units in the root.
     (room / Path(UNIT).name).write_text(text.replace("/usr/bin/npss-registry", "/bin/true"), encoding="utf-8")
-    told(tally, "systemd reads the service", ["systemd-analyze", "verify", "--man=no", room / Path(UNIT).name])
-    told(tally, "the service may do little", ["systemd-analyze", "security", "--offline=yes", f"--threshold={EXPOSURE}", root.folder / UNIT])
+    output_of(tally, "systemd reads the service", ["systemd-analyze", "verify", "--man=no", room / Path(UNIT).name])
+    output_of(tally, "the service may do little", ["systemd-analyze", "security", "--offline=yes", f"--threshold={EXPOSURE}", root.folder / UNIT])

@@ -47,7 +47,7 @@ def built_of(copy, prefix, version, to):
     shutil.copy(copy / "include/npss.h", to / "include/npss.h")
     flags, proved = to / "lib/pkgconfig/npss.pc", to / "share/doc/npss/PROVED"
     flags.write_text(re.sub(r"^Version: .*$", f"Version: {version}", flags.read_text(encoding="utf-8"), flags=re.MULTILINE), encoding="utf-8")
-    head = subprocess.run([sys.executable, copy / "packaging/release.py", "--told"], stdout=subprocess.PIPE, text=True, check=True).stdout
+    head = subprocess.run([sys.executable, copy / "packaging/release.py", "--head"], stdout=subprocess.PIPE, text=True, check=True).stdout
     text = re.sub(r"\Anpss .*\ncommit .*\n", head, proved.read_text(encoding="utf-8"))
     summed = subprocess.run(["sha256sum", "include/npss.h"], cwd=to, stdout=subprocess.PIPE, text=True, check=True).stdout
     proved.write_text(re.sub(r"^[0-9a-f]{64}  include/npss\.h\n", summed, text, flags=re.MULTILINE), encoding="utf-8")

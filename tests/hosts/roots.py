@@ -35,11 +35,11 @@ MAKING, PATIENCE = 600, 120
 def suite():
     """The name of this machine's release of Debian, or nothing."""
     try:
-        told = Path("/etc/os-release").read_text(encoding="utf-8")
+        release = Path("/etc/os-release").read_text(encoding="utf-8")
     except OSError:
         return ""
-    found = re.search(r"^VERSION_CODENAME=(\w+)$", told, re.MULTILINE)
-    return found[1] if found and re.search(r"^ID=debian$", told, re.MULTILINE) else ""
+    found = re.search(r"^VERSION_CODENAME=(\w+)$", release, re.MULTILINE)
+    return found[1] if found and re.search(r"^ID=debian$", release, re.MULTILINE) else ""
 
 
 def why_not():
@@ -67,10 +67,10 @@ def mounts_apart():
 def place():
     """Where the root is best made: in memory where there is much of it, since dpkg waits for each file on a disk; else nothing."""
     try:
-        state, told = os.statvfs(SHARED), Path("/proc/meminfo").read_text(encoding="utf-8")
+        state, memory = os.statvfs(SHARED), Path("/proc/meminfo").read_text(encoding="utf-8")
     except OSError:
         return None
-    free = int(re.search(r"^MemAvailable: *(\d+) kB$", told, re.MULTILINE)[1]) * 1024
+    free = int(re.search(r"^MemAvailable: *(\d+) kB$", memory, re.MULTILINE)[1]) * 1024
     fits = state.f_bavail * state.f_frsize >= ROOM and free >= 4 * ROOM and not state.f_flag & (os.ST_NOEXEC | os.ST_NODEV)
     return str(SHARED) if fits and os.geteuid() == 0 else None
 

@@ -130,8 +130,8 @@ def check_names(tally, prefix):
     tally.same("the names of the shared library", sorted(name for name in names if name.startswith("npss_")),
                [f"npss_{call}" for call in CALLS])
     tally.same("no other names", sorted(name for name in names if not name.lower().startswith("npss_")), [])
-    told = done(tally, "readelf", ["readelf", "-d", library]) or ""
-    tally.same("what it wants", set(re.findall(r"\(NEEDED\).*\[(.*)\]", told)), {"libc.so.6"})
+    output = done(tally, "readelf", ["readelf", "-d", library]) or ""
+    tally.same("what it wants", set(re.findall(r"\(NEEDED\).*\[(.*)\]", output)), {"libc.so.6"})
 
 
 def wanted_names():
@@ -187,9 +187,9 @@ def check_history(tally, program, prefix, folder):
     history = compiled(tally, prefix, folder, "history")
     if history is None:
         return
-    told = done(tally, "a history by the calls", [history, *V1, *V2]) or ""
-    ended = re.search(r"^(\d+) passed, 0 failed$", told, re.MULTILINE)
-    if tally.check("a history by the calls: its checks", ended, told[-500:]):
+    output = done(tally, "a history by the calls", [history, *V1, *V2]) or ""
+    ended = re.search(r"^(\d+) passed, 0 failed$", output, re.MULTILINE)
+    if tally.check("a history by the calls: its checks", ended, output[-500:]):
         tally.passed += int(ended[1])
     if not program.exists():
         print("skipped: the history beside the program: no program")
@@ -198,7 +198,7 @@ def check_history(tally, program, prefix, folder):
     schedule.write_text(done(tally, "its schedule", [history]) or "", encoding="ascii")
     _, report, error = run(program, ["replay", "--form", "nfc", schedule, *V1, *V2])
     lines = [line for line in report.decode().splitlines() if not line.startswith("entry ")]
-    tally.check("a history by the calls: the replies of `npss replay`", lines and told.splitlines()[:-1] == lines, (told, report, error))
+    tally.check("a history by the calls: the replies of `npss replay`", lines and output.splitlines()[:-1] == lines, (output, report, error))
 
 
 def page_program(page, language):
@@ -313,9 +313,9 @@ def check_rust(tally, prefix, folder):
     if not wanted("cargo"):
         return
     nowhere = {**os.environ, "NPSS_PREFIX": str(folder / "nowhere"), "CARGO_TARGET_DIR": str(folder / "target")}
-    told = subprocess.run(["cargo", "build", "--offline", "--locked"], cwd=ROOT / "bindings" / "rust", env=nowhere, stdout=subprocess.PIPE,
+    ran = subprocess.run(["cargo", "build", "--offline", "--locked"], cwd=ROOT / "bindings" / "rust", env=nowhere, stdout=subprocess.PIPE,
                           stderr=subprocess.STDOUT, text=True, check=False)
-    tally.check("the crate without the library tells how to get it", told.returncode != 0 and "./build-c" in told.stdout, told.stdout[-2000:])
+    tally.check("the crate without the library tells how to get it", ran.returncode != 0 and "./build-c" in ran.stdout, ran.stdout[-2000:])
     environment = {**os.environ, "NPSS_PREFIX": str(prefix), "CARGO_TARGET_DIR": str(folder / "target")}
     written = done(tally, "the crate for Rust", ["cargo", "test", "--offline", "--locked"], cwd=ROOT / "bindings" / "rust", env=environment)
     for passed, failed in re.findall(r"test result: \w+\. (\d+) passed; (\d+) failed", written or ""):

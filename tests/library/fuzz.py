@@ -142,15 +142,15 @@ def check_run(tally, name, words, chosen):
         return
     if not tally.check(name, done.returncode == 0, f"status {done.returncode}, seed {chosen.seed}: {(done.stdout + done.stderr)[-3000:]}"):
         return
-    told = re.search(r"^(?:stat::number_of_executed_units:\s*)?(\d+)$", done.stdout + done.stderr, re.MULTILINE)
-    inputs = int(told[1]) if told else 0
+    executed = re.search(r"^(?:stat::number_of_executed_units:\s*)?(\d+)$", done.stdout + done.stderr, re.MULTILINE)
+    inputs = int(executed[1]) if executed else 0
     tally.check(f"{name}: inputs", inputs >= LEAST[name] * chosen.seconds, f"{inputs} in {chosen.seconds} s")
     print(f"{name}: {inputs} inputs in {chosen.seconds} s", flush=True)
 
 
-def check_judged(tally, told, chosen):
+def check_judged(tally, outcome, chosen):
     """Folding files that were opened and judged, enough of them, and no two answers; that of one with two is kept."""
-    count, differing = told
+    count, differing = outcome
     if differing:
         (FOUND / "judged").write_bytes(differing[1])
         differing = f"{FOUND}/judged beside version {differing[0]}, seed {chosen.seed}: got {shown(differing[2])}, want {shown(differing[3])}"
@@ -177,13 +177,13 @@ def main():
         prefix = instrumented.library_below(folder) if chosen.instrumented else chosen.prefix.resolve()
         made = {name: pool.submit(compiled, prefix, folder, name, sources(name)) for name in SOURCES}
         answers = built(tally, "folding_answers", made["folding_answers"].result())
-        told = answers and pool.submit(judged.judge_until, answers, ucd.package_files()[0], chosen.seconds, chosen.seed)
+        judging = answers and pool.submit(judged.judge_until, answers, ucd.package_files()[0], chosen.seconds, chosen.seed)
         for name in LEAST:
             program = built(tally, name, made[name].result())
             if program:
                 check_run(tally, name, words_of(name, program, folder, chosen), chosen)
-        if told:
-            check_judged(tally, told.result(), chosen)
+        if judging:
+            check_judged(tally, judging.result(), chosen)
     tally.finish()
 
 

@@ -65,10 +65,10 @@ class Reader:
     def __init__(self, image):
         self.image, self.at = image, 0
         self.fields, self.numbers, self.markers = [], [], []
-        name = self.take(4)
+        name = self.next_bytes(4)
         if name not in (b"NPS1", b"NPS2"):
             raise Malformed(0)
-        self.form = self.take(1)[0]
+        self.form = self.next_bytes(1)[0]
         if self.form not in FORMS:
             raise Malformed(4)
         self.needs = self.number() if name == b"NPS2" else None
@@ -77,7 +77,7 @@ class Reader:
         if self.at < len(image):
             raise Malformed(self.at)
 
-    def take(self, size):
+    def next_bytes(self, size):
         if len(self.image) < self.at + size:
             raise Malformed(self.at)
         self.fields.append(self.at)
@@ -85,19 +85,19 @@ class Reader:
         return self.image[self.at - size:self.at]
 
     def number(self):
-        value = int.from_bytes(self.take(4), "big")
+        value = int.from_bytes(self.next_bytes(4), "big")
         self.numbers.append(self.at - 4)
         return value
 
     def field(self):
-        return self.take(self.number())
+        return self.next_bytes(self.number())
 
     def entry(self):
         first, string = self.at, self.field()
         return first, string, self.field() if self.needs is None else self.key(string)
 
     def key(self, string):
-        place, marker = self.at, self.take(1)
+        place, marker = self.at, self.next_bytes(1)
         if marker not in (SAME, OTHER):
             raise Malformed(place)
         key = string if marker == SAME else self.field()
@@ -216,8 +216,8 @@ def answers(needs, version):
     """A row for each place and answer: the place, how many bytes go, those that come in hex (`-` for none, several
     ways divided by commas), and the answer."""
     rows = [((at, gone, answer(made, version)), put.hex()) for at, gone, put, made in changes(whole(needs), needs)]
-    for (at, gone, told), puts in groupby(rows, lambda row: row[0]):
-        yield f"{at} {gone} {','.join(put or '-' for _, put in puts)} {told}"
+    for (at, gone, answered), puts in groupby(rows, lambda row: row[0]):
+        yield f"{at} {gone} {','.join(put or '-' for _, put in puts)} {answered}"
 
 
 def wrapped(rows):

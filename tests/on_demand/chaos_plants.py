@@ -54,8 +54,8 @@ PLANTS = {
             __import__("random").random() < 0.02 and __import__("os")._exit(9)
         for place, body in piece:
 """),
-    "a parked record is dropped": ("shards.py", """        refused = self._take(place, claim)
-        new =""", """        refused = self._take(place, claim)
+    "a parked record is dropped": ("shards.py", """        refused = self._take_claim(place, claim)
+        new =""", """        refused = self._take_claim(place, claim)
         if refused:
             return Outcome("full")
         new =""", "Versions.test_a_record_with_a_code_point_that_is_missing_is_parked"),
@@ -110,7 +110,7 @@ TESTED = {
     "a caseless key that is parked is not its own": ("examine.py", "            made = self._made(True, claim.caseless)\n", "            return\n",
                                                      "CaselessVersions.test_a_lagging_node_parks_no_caseless_key_that_is_none"),
     "a caseless key of a parked name is not compared": ("shards.py", """            self._examiner.claim(place, claim)
-            if self._take""", """            if self._take""", "CaselessVersions.test_a_wrong_caseless_key_of_a_parked_name_stops_the_upgrade"),
+            if self._take_claim""", """            if self._take_claim""", "CaselessVersions.test_a_wrong_caseless_key_of_a_parked_name_stops_the_upgrade"),
     "a claim without its caseless key is taken": ("records.py", """_text(fields["caseless"]) if caseless else None""",
                                                   """_text(fields.get("caseless") or "") if caseless else None""",
                                                   "CaselessLogs.test_a_claim_without_its_caseless_key_is_no_record"),

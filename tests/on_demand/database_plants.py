@@ -200,7 +200,7 @@ PLANTS = {
     "SQLite: audited tables stay open": (LITE_RAISE, "            else fail_memory(call);\n        }\n    }\n    npss_close(&fresh);", "            else fail_memory(call);\n        }\n    }", "Memory.test_nothing_is_left_of_what_failed"),
     "SQLite: any record keeps npss_open away": (LITE_RAISE, "ask_number(self->db, \"SELECT assigned FROM main.npss_record\"", "ask_number(self->db, \"SELECT assigned FROM npss_record\""),
     # SQLite: which tables are in use
-    "SQLite: a raise that is rolled back stays in use": (LITE_WATCH, "    if (told->taken) told->is_undone = 1;\n", ""),
+    "SQLite: a raise that is rolled back stays in use": (LITE_WATCH, "    if (watched->read_depth) watched->is_undone = 1;\n", ""),
     "SQLite: behind a raise each key looks at the record": (LITE_RECORD, "settle(self, &now, !sqlite3_get_autocommit(self->db) && !self->watch.takes_part);", "settle(self, &now, 1);", "Looks"),
     "SQLite: behind a raise's transaction each key looks at the record": (LITE_RECORD, "self->may_be_undone && now->pager == self->seen.pager", "self->may_be_undone", "Looks"),
     "SQLite: a replaced database keeps its tables": (LITE_RECORD, "return data_version(self->db, NULL) == self->seen.pager;", "return 1;", "Replaced"),
@@ -211,7 +211,7 @@ PLANTS = {
     "SQLite: where no PRAGMA may be asked nothing is looked at": (LITE_RECORD, "now.schema == UNTOLD || ", "", "Replaced"),
     "SQLite: a statement that goes on keeps tables that were taken back": (LITE_RECORD, "sqlite3_get_auxdata(call, SEEN_TO) == (void *)self->number) return 1;", "sqlite3_get_auxdata(call, SEEN_TO)) return 1;", "Replaced"),
     "SQLite: a statement without tables doesn't look at the file": (LITE_RECORD, "if (transaction == 0) ask_number", "if (0) ask_number", "Replaced"),
-    "SQLite: a statement without tables begins a transaction": (LITE_RECORD, "    if (sqlite3_get_autocommit(self->db)) {\n        sqlite3_int64 told;", "    {\n        sqlite3_int64 told;", "Looks"),
+    "SQLite: a statement without tables begins a transaction": (LITE_RECORD, "    if (sqlite3_get_autocommit(self->db)) {\n        sqlite3_int64 none;", "    {\n        sqlite3_int64 none;", "Looks"),
     "SQLite: another's commit is not looked at": (LITE_RECORD, "!self->own.is_open && now.data == self->seen.data && now", "!self->own.is_open && now"),
     "SQLite: what isn't committed stays in use": (LITE_RECORD, "may_be_undone || dirty != 0", "may_be_undone", "Replaced"),
     "SQLite: a record that is taken back unseen stays in use": (LITE_RECORD, "(is_new && self->is_recorded && now->transaction > 1)", "(0 && is_new)", "Undone"),
@@ -230,21 +230,21 @@ PLANTS = {
     "SQLite: an attached database fits for ever": (LITE_RECORD, "    forget_attached(self);\n", "", "Attached"),
     "SQLite: an attached database that is read has to fit": (LITE_ATTACHED, "== SQLITE_TXN_WRITE) return name", ">= SQLITE_TXN_READ) return name", "Attached"),
     "SQLite: an attached database fits the next one of its name": (LITE_ATTACHED, "    if (may_be_detached(self)) forget_attached(self);\n", "", "Beneath"),
-    "SQLite: each write of an attached database compares it": (LITE_ATTACHED, "    slot->told = self->watch;\n    return 1;\n", "    return 0;\n", "Attached"),
-    "SQLite: an attached record that is taken back fits": (LITE_ATTACHED, " && slot->told.undone == self->watch.undone;", ";", "Beneath"),
-    "SQLite: an attached schema changes unseen": (LITE_ATTACHED, "(self->watch.takes_part && slot->told.turns == self->watch.turns);", "1;", "Beneath"),
+    "SQLite: each write of an attached database compares it": (LITE_ATTACHED, "    slot->watched = self->watch;\n    return 1;\n", "    return 0;\n", "Attached"),
+    "SQLite: an attached record that is taken back fits": (LITE_ATTACHED, " && slot->watched.undone == self->watch.undone;", ";", "Beneath"),
+    "SQLite: an attached schema changes unseen": (LITE_ATTACHED, "(self->watch.takes_part && slot->watched.turns == self->watch.turns);", "1;", "Beneath"),
     "SQLite: an empty attached record fits": (LITE_ATTACHED, "return -1; /* it is empty */", "return 1; /* it is empty */", "Beneath"),
     # SQLite: what a rollback takes back
-    "SQLite: a rollback to a savepoint leaves what was read": (LITE_WATCH, "    if (told->taken > number + 1) told->is_undone = 1;\n", "", "Undone"),
-    "SQLite: each rollback to a savepoint takes the record back": (LITE_WATCH, "if (told->taken > number + 1) told->is_undone = 1;", "if (told->taken) told->is_undone = 1;", "Undone"),
-    "SQLite: what was read within a savepoint stays there": (LITE_WATCH, "    if (told->taken > number + 1) told->taken = number + 1;\n", "", "Undone"),
+    "SQLite: a rollback to a savepoint leaves what was read": (LITE_WATCH, "    if (watched->read_depth > number + 1) watched->is_undone = 1;\n", "", "Undone"),
+    "SQLite: each rollback to a savepoint takes the record back": (LITE_WATCH, "if (watched->read_depth > number + 1) watched->is_undone = 1;", "if (watched->read_depth) watched->is_undone = 1;", "Undone"),
+    "SQLite: what was read within a savepoint stays there": (LITE_WATCH, "    if (watched->read_depth > number + 1) watched->read_depth = number + 1;\n", "", "Undone"),
     "SQLite: what was read is of the whole transaction": (LITE_WATCH, "self->watch.depth + 1 : 0;", "1 : 0;", "Undone"),
-    "SQLite: what is committed is taken back by the next rollback": (LITE_WATCH, "told_of(at)->takes_part = told_of(at)->taken = 0;", "told_of(at)->takes_part = 0;", "Undone"),
-    "SQLite: one transaction is told of": (LITE_WATCH, "told_of(at)->takes_part = told_of(at)->taken = 0;", "told_of(at)->taken = 0;", "Undone"),
-    "SQLite: a table that is dropped within a transaction is not told of": (LITE_WATCH, "    told_of(at)->turns++;\n", "", "Undone"),
+    "SQLite: what is committed is taken back by the next rollback": (LITE_WATCH, "watch_of(at)->takes_part = watch_of(at)->read_depth = 0;", "watch_of(at)->takes_part = 0;", "Undone"),
+    "SQLite: one transaction is told of": (LITE_WATCH, "watch_of(at)->takes_part = watch_of(at)->read_depth = 0;", "watch_of(at)->read_depth = 0;", "Undone"),
+    "SQLite: a table that is dropped within a transaction is not told of": (LITE_WATCH, "    watch_of(at)->turns++;\n", "", "Undone"),
     "SQLite: a transaction that writes is not told of": (LITE_RECORD, "return self->watch.takes_part || sqlite3_get_autocommit(self->db) ||", "return 1 ||", "Undone"),
     "SQLite: each key of a transaction looks at the record": (LITE_RECORD, "    if (!sqlite3_get_autocommit(self->db)) is_watched(self);\n", "", "Looks"),
-    "SQLite: a kept statement is left to the connection": (LITE_WATCH, "    sqlite3_finalize(told->kept);\n    told->kept = NULL;\n", "", "Memory.test_nothing_is_touched_out_of_bounds"),
+    "SQLite: a kept statement is left to the connection": (LITE_WATCH, "    sqlite3_finalize(watched->kept);\n    watched->kept = NULL;\n", "", "Memory.test_nothing_is_touched_out_of_bounds"),
     "SQLite: the table that is told outlives its connection": (LITE_WATCH, "    self->owner->users++;\n", "", "Memory.test_nothing_is_touched_out_of_bounds"),
     "SQLite: somebody's table is emptied": (LITE_WATCH, "DELETE FROM main.npss_watch WHERE 0", "DELETE FROM main.npss_watch", "Undone"),
     "SQLite: a schema may name the table that is told": (LITE_WATCH, "sqlite3_vtab_config(db, SQLITE_VTAB_DIRECTONLY);", "SQLITE_OK;", "Undone"),
@@ -265,7 +265,7 @@ PLANTS = {
     "SQLite: an older database keeps its trigger": (LITE_RAISE, "DROP TRIGGER IF EXISTS main.npss_record_update; CREATE TRIGGER \" UPDATE_TRIGGER;", "\";", "Foldings"),
     "SQLite: foldings that another one records are not looked at": (LITE_RECORD, "recorded == 2 * self->assigned + self->is_folded;", "recorded / 2 == self->assigned;", "Foldings"),
     "SQLite: attached databases have any foldings": (LITE_ATTACHED, "main ? \"NULL\" : \"a.folding\", other ? \"NULL\" : \"b.folding\"", "\"NULL\", \"NULL\"", "Beside"),
-    "SQLite: an attached folding is told as a version": (LITE_ATTACHED, "told ? \"folding\" : \"version of Unicode\"", "told ? \"version of Unicode\" : \"folding\"", "Beside"),
+    "SQLite: an attached folding is told as a version": (LITE_ATTACHED, "number ? \"folding\" : \"version of Unicode\"", "number ? \"version of Unicode\" : \"folding\"", "Beside"),
     "SQLite: caseless keys of opened tables are forgotten": (LITE, "self->folded_own = 1;", "self->folded_own = 0;", "Beside"),
     "SQLite: a record with other foldings fits opened tables": (LITE_RECORD, "both = folds && has_foldings(&self->own);", "both = 0;", "Beside"),
     "SQLite: a caseless key is of another form": (LITE, "&(maker){npss_caseless_key, NPSS_NFKC, 0}", "&(maker){npss_caseless_key, NPSS_NFC, 0}", "Caseless"),
@@ -358,9 +358,9 @@ def checked(tally, name, kind, planted_name, prefix, versions):
         found, why = is_found(kind, planted_name, prefix, versions), ""
     except RuntimeError as error:
         found, why = None, str(error)
-    told = why or ("found" if found else "survived")
-    print(f"{name}: {told} after {time.time() - begun:.0f} seconds", flush=True)
-    return tally.check(name, found is bool(planted_name), told)
+    outcome = why or ("found" if found else "survived")
+    print(f"{name}: {outcome} after {time.time() - begun:.0f} seconds", flush=True)
+    return tally.check(name, found is bool(planted_name), outcome)
 
 
 def main():

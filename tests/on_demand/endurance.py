@@ -31,22 +31,22 @@ PIECE = "A name, ".encode() * 400 + "Ångström, Zażółć, a\u0302\u0323 ".enc
 SAME = 1.0
 
 
-def peak(program, words, give, take):
+def peak(program, words, give, consume):
     """A run that is given pieces and whose output is taken: its status, its line, its seconds and its peak in MiB, looked
     at whenever output comes."""
     began = time.monotonic()
-    with tempfile.TemporaryFile() as told:
-        run = subprocess.Popen([program, *words], stdin=subprocess.PIPE, stdout=subprocess.PIPE, stderr=told, cwd=ROOT)
+    with tempfile.TemporaryFile() as stderr:
+        run = subprocess.Popen([program, *words], stdin=subprocess.PIPE, stdout=subprocess.PIPE, stderr=stderr, cwd=ROOT)
         feeder = threading.Thread(target=feed, args=(run.stdin, give))
         feeder.start()
         most = 0.0
         while piece := run.stdout.read(1 << 20):
             most = max(most, resident(run.pid))
-            take(piece)
+            consume(piece)
         run.wait()
         feeder.join()
-        told.seek(0)
-        return run.returncode, told.read(), time.monotonic() - began, most
+        stderr.seek(0)
+        return run.returncode, stderr.read(), time.monotonic() - began, most
 
 
 def feed(pipe, pieces):
@@ -75,7 +75,7 @@ class Output:
         self.length = 0
         self.right = True
 
-    def take(self, bytes_):
+    def compare(self, bytes_):
         at = self.length % len(self.piece)
         wanted = (self.piece + self.piece)[at:at + len(bytes_)] if len(bytes_) <= len(self.piece) else None
         while wanted is not None and len(wanted) < len(bytes_):
@@ -98,17 +98,17 @@ def check_streams(tally, program, files):
         peaks = []
         for size in (GIB, 3 * GIB):
             output = Output(piece)
-            status, told, seconds, mebibytes = peak(program, words, pieces(size), output.take)
+            status, stderr, seconds, mebibytes = peak(program, words, pieces(size), output.compare)
             peaks.append(mebibytes)
             print(f"{form}: {size >> 30} GiB in {seconds:.1f} s, {size / seconds / 1e6:.0f} MB/s, peak {mebibytes:.1f} MiB")
-            tally.check(f"{form} of {size >> 30} GiB", (status, told) == (0, b"") and output.right and output.length,
-                        f"status {status}, {told}, {output.length} bytes")
+            tally.check(f"{form} of {size >> 30} GiB", (status, stderr) == (0, b"") and output.right and output.length,
+                        f"status {status}, {stderr}, {output.length} bytes")
         tally.check(f"{form}: the peak is steady", abs(peaks[1] - peaks[0]) < SAME, f"{peaks}")
     output = Output(form_of(program, ["normalize", "--form", "nfc", *files]))
-    status, told, seconds, mebibytes = peak(program, ["normalize", "--form", "nfc", *files], pieces(5 * GIB), output.take)
-    print(f"nfc: 5 GiB given, {output.length} bytes written in {seconds:.1f} s, peak {mebibytes:.1f} MiB, {told}")
-    tally.check("5 GiB are too many", (status, told) == (4, b"input: TooLarge\n") and output.right
-                and 0 < output.length <= LIMIT, f"status {status}, {told}, {output.length} bytes")
+    status, stderr, seconds, mebibytes = peak(program, ["normalize", "--form", "nfc", *files], pieces(5 * GIB), output.compare)
+    print(f"nfc: 5 GiB given, {output.length} bytes written in {seconds:.1f} s, peak {mebibytes:.1f} MiB, {stderr}")
+    tally.check("5 GiB are too many", (status, stderr) == (4, b"input: TooLarge\n") and output.right
+                and 0 < output.length <= LIMIT, f"status {status}, {stderr}, {output.length} bytes")
 
 
 # Names are of one or two of these, so that a million events have fewer than 16,777,216 bytes.
@@ -143,9 +143,9 @@ def check_replays(tally, program, files, events):
         reports, peaks = set(), []
         for _ in range(10):
             digest = hashlib.sha256()
-            status, told, seconds, mebibytes = peak(
+            status, stderr, seconds, mebibytes = peak(
                 program, ["replay", "--form", "nfc", path, *files], [], digest.update)
-            reports.add((status, told, digest.hexdigest()))
+            reports.add((status, stderr, digest.hexdigest()))
             peaks.append(mebibytes)
             print(f"replay: status {status} in {seconds:.1f} s, peak {mebibytes:.1f} MiB")
         tally.check("ten replays are one", len(reports) == 1 and next(iter(reports))[:2] == (0, b""), f"{reports}")

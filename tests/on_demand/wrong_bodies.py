@@ -115,10 +115,10 @@ def check(tally, folder, call):
     done = subprocess.run(["rt", "try", "--test"], cwd=leave_examples(folder, call.crate), stdin=subprocess.DEVNULL,
                           stdout=subprocess.PIPE, stderr=subprocess.STDOUT, text=True, check=False)
     path.write_text(right, encoding="utf-8")
-    told = failure_of(done.stdout, call.test)
-    passed = tally.check(f"{call.crate}: {call.name} always wants memory", told, done.stdout[-500:])
+    failure = failure_of(done.stdout, call.test)
+    passed = tally.check(f"{call.crate}: {call.name} always wants memory", failure, done.stdout[-500:])
     print(f"{call.crate}, {call.file}: {call.name}: {'refused' if passed else 'passes'} after"
-          f" {time.monotonic() - began:.0f} s {' '.join(told.split())[:160]}", flush=True)
+          f" {time.monotonic() - began:.0f} s {' '.join(failure.split())[:160]}", flush=True)
 
 
 def main():

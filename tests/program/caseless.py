@@ -64,9 +64,9 @@ def match_runs():
     for head, first, second, answer in split("MATCHES.txt"):
         version, form = head.split()
         status, line = answer.split(" ", 1)
-        told = f"{line}\n".encode()
+        output = f"{line}\n".encode()
         yield (["compare", "--form", form, *files(version)], f"{string_of(first)}\n{string_of(second)}\n".encode(),
-               (int(status), told, b"") if int(status) <= DIFFERENT else (int(status), b"", told))
+               (int(status), output, b"") if int(status) <= DIFFERENT else (int(status), b"", output))
 
 
 def audit_runs():
@@ -92,8 +92,8 @@ def edge_files(data, name):
 
 def edge_runs():
     """Those over folding files at the edges."""
-    for name, data, status, told in split("edges/EXPECTED.txt"):
-        want = (int(status), b"", f"{told}\n".encode()) if int(status) else (0, string_of(told).encode(), b"")
+    for name, data, status, answer in split("edges/EXPECTED.txt"):
+        want = (int(status), b"", f"{answer}\n".encode()) if int(status) else (0, string_of(answer).encode(), b"")
         yield ["key", "--form", "nfc", *edge_files(data, name)], b"A", want
 
 
@@ -197,7 +197,7 @@ def check_published(tally, program):
         return None if got == want else f"{form} of {shown(text)}: {shown(got)}, want {shown(want)}"
 
     with ThreadPoolExecutor() as pool:
-        wrong = [told for told in pool.map(differs, ((form, text) for form in FORMS for text in texts)) if told]
+        wrong = [difference for difference in pool.map(differs, ((form, text) for form in FORMS for text in texts)) if difference]
     tally.check(f"{len(texts)} published texts in four forms have Python's folding", not wrong, "; ".join(wrong[:3]))
     tally.passed += len(texts) * len(FORMS) - len(wrong)
     for cut in (1, 2):

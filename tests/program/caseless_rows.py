@@ -46,36 +46,36 @@ def match_rows():
 def audit_rows():
     """Two folders, and what is told of them."""
     rows = []
-    for head, *told in split("AUDITS.txt"):
+    for head, *rest in split("AUDITS.txt"):
         if len(head.split()) == 2:
-            rows += [*head.split(), told[1]]
+            rows += [*head.split(), rest[1]]
     return {"AUDITS": rows}
 
 
 def edges():
     """Each file at an edge that is a text, with its data, its status and what is told of it."""
-    for name, data, status, told in split("edges/EXPECTED.txt"):
+    for name, data, status, answer in split("edges/EXPECTED.txt"):
         try:
             text = (FOLDER / "edges" / name).read_bytes().decode("utf-8")
         except UnicodeDecodeError:
             continue
-        yield text, data, status, told.removeprefix("version 0 folding: ")
+        yield text, data, status, answer.removeprefix("version 0 folding: ")
 
 
 def edge_rows():
     """The files at the edges, with their faults by the grammar alone."""
     rows = []
-    for text, _data, _status, told in edges():
-        rows += [text, told if told.startswith("line ") else ""]
+    for text, _data, _status, answer in edges():
+        rows += [text, answer if answer.startswith("line ") else ""]
     return {"EDGES": rows}
 
 
 def condition_rows():
     """The files that have no fault of the grammar, with their faults beside their data, by the constant that has them."""
     rows = {}
-    for text, data, status, told in edges():
-        if not told.startswith("line "):
-            rows.setdefault(f"{data.upper()}_CONDITIONS", []).extend((text, told if status == "4" else ""))
+    for text, data, status, answer in edges():
+        if not answer.startswith("line "):
+            rows.setdefault(f"{data.upper()}_CONDITIONS", []).extend((text, answer if status == "4" else ""))
     return rows
 
 

@@ -205,8 +205,8 @@ def others():
     if shutil.which("uconv") is None:
         yield "ICU's uconv", None, None, "the command uconv is not there (Debian's package icu-devtools)"
     else:
-        told = subprocess.run(["uconv", "--version"], capture_output=True, text=True).stdout
-        yield f"ICU's uconv {told.split()[-1]}", icu_knows, icu_forms, None
+        output = subprocess.run(["uconv", "--version"], capture_output=True, text=True).stdout
+        yield f"ICU's uconv {output.split()[-1]}", icu_knows, icu_forms, None
 
 
 def pools_of(published, known):

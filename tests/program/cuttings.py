@@ -47,8 +47,8 @@ def is_read(pipe):
 
 def run_cut(program, words, pieces):
     """The run that is given these pieces: its status and what it wrote."""
-    with tempfile.TemporaryFile() as out, tempfile.TemporaryFile() as told:
-        process = subprocess.Popen([str(program), *words], stdin=subprocess.PIPE, stdout=out, stderr=told)
+    with tempfile.TemporaryFile() as out, tempfile.TemporaryFile() as stderr:
+        process = subprocess.Popen([str(program), *words], stdin=subprocess.PIPE, stdout=out, stderr=stderr)
         try:
             for piece in pieces:
                 process.stdin.write(piece)
@@ -60,8 +60,8 @@ def run_cut(program, words, pieces):
             pass
         status = process.wait(PATIENCE)
         out.seek(0)
-        told.seek(0)
-        return status, out.read(), told.read()
+        stderr.seek(0)
+        return status, out.read(), stderr.read()
 
 
 def check_cuttings(tally, program, versions, test_strings):

@@ -47,9 +47,9 @@ class Three:
     def __init__(self, data, exclusions, folding):
         self.files = [str(data), str(exclusions), str(folding)]
         self.folding = Path(folding).read_bytes()
-        self.version, told = data_files.version_of(Path(data).read_bytes(), Path(exclusions).read_bytes())
+        self.version, fault = data_files.version_of(Path(data).read_bytes(), Path(exclusions).read_bytes())
         self.lowercases = folding_files.lowercases_of(Path(data).read_bytes()) if self.version else {}
-        self.decompositions, self.told = folding_files.Decompositions(self.version), told
+        self.decompositions, self.fault = folding_files.Decompositions(self.version), fault
 
     def assigned(self):
         return [code for row in self.version.rows for code in range(row.first, row.last + 1)]
@@ -57,7 +57,7 @@ class Three:
     def folded(self, folding=None):
         """The version with its folding, or with that of these bytes; or the line that the program says of it."""
         if self.version is None:
-            return None, self.told
+            return None, self.fault
         return folding_files.folded_of(self.decompositions, self.lowercases, self.folding if folding is None else folding)
 
     def foldings(self):
@@ -285,7 +285,7 @@ def check_icu(tally, program, three, count):
         return f"{form}: {next(((ascii(one), ascii(ours), ascii(icus)) for one, ours, icus in lines if ours != icus), shown(got))}"
 
     with ThreadPoolExecutor() as pool:
-        wrong = [told for told in pool.map(differs, ((form, text) for form in FORMS for text in texts)) if told]
+        wrong = [difference for difference in pool.map(differs, ((form, text) for form in FORMS for text in texts)) if difference]
     many = len(FORMS) * sum(text.count("\n") + 1 for text in texts)
     tally.check(f"{many} keys are ICU's", not wrong, "; ".join(wrong[:3]))
     print(f"{many} caseless keys compared with ICU's")

@@ -55,9 +55,9 @@ def write_toolchain(folder, version):
 def asked(kit, kind="asked"):
     """What the toolchain was asked to prove since this was looked at last; of the kind `turns` also what it has proved."""
     path = kit / f"rattle.{kind}"
-    told = path.read_text(encoding="utf-8").split() if path.exists() else []
+    names = path.read_text(encoding="utf-8").split() if path.exists() else []
     path.unlink(missing_ok=True)
-    return told
+    return names
 
 
 def small_repository(folder, launcher, crates="low: smallvec\nnpss: low clap\nbehind: low npss\n"):
@@ -76,20 +76,20 @@ def small_repository(folder, launcher, crates="low: smallvec\nnpss: low clap\nbe
     return sources
 
 
-def told_on_terminal(command, environment):
+def run_on_terminal(command, environment):
     """What a command tells on standard error where that is a terminal."""
     ours, theirs = pty.openpty()
     with subprocess.Popen(command, stdin=subprocess.DEVNULL, stdout=subprocess.DEVNULL, stderr=theirs, env=environment):
         os.close(theirs)
-        told = b""
+        terminal = b""
         try:
             while piece := os.read(ours, 4096):
-                told += piece
+                terminal += piece
         except OSError:
             # the other end of a terminal that nobody holds any more
             pass
     os.close(ours)
-    return told
+    return terminal
 
 
 def check_building(tally, launcher, scratch):
@@ -104,8 +104,8 @@ def check_building(tally, launcher, scratch):
         return run(folder / "npss", ["a", "b"], b"", scratch, env={**os.environ, "PATH": ":".join([*path, plain])})
 
     def check(name, got, status, out, builds):
-        told = builds in got[2] if builds else got[2] == b""
-        tally.check(f"the launcher {name}", got[:2] == (status, out) and told, f"got {got}")
+        is_told = builds in got[2] if builds else got[2] == b""
+        tally.check(f"the launcher {name}", got[:2] == (status, out) and is_told, f"got {got}")
 
     check("without a toolchain and a program", call(), 127, b"", b"is not on the path")
     check("builds the first time, and names the toolchain", call(str(kit)), 0, b"a b\n", b"with kit one; the first")
@@ -142,8 +142,8 @@ def check_building(tally, launcher, scratch):
     library.write_text("BROKEN\n", encoding="utf-8")
     check("shows the log of a library that fails", call(str(other)), 125, b"", b"checked low::first, 1 of 2")
     library.write_text("SLOW\n", encoding="utf-8")
-    told = told_on_terminal([folder / "npss"], {**os.environ, "PATH": f"{other}:{plain}"})
-    tally.check("the launcher tells how far it is", b"crate low (1 of 2); 0 min 01 s" in told, f"got {told}")
+    terminal = run_on_terminal([folder / "npss"], {**os.environ, "PATH": f"{other}:{plain}"})
+    tally.check("the launcher tells how far it is", b"crate low (1 of 2); 0 min 01 s" in terminal, f"got {terminal}")
 
 
 def check_order(tally, launcher, scratch):

@@ -33,7 +33,7 @@ from harness import FORMS, ROOT, Tally, resident, run, shown
 from refusals import MEMORY as WANT, WAYS, Refusals, built_shim, each, is_last_call
 from release import newest
 from ucd import DATA, EXCLUSIONS, FOLDING, each_test_string, package_files
-from versions import V1, V2, record, with_records, write_all
+from versions import V1, record, with_records, write_all
 
 FIXTURES = ROOT / "fixtures"
 USAGE = (ROOT / "crates" / "npss_lines" / "stdout").read_bytes()
@@ -316,7 +316,7 @@ def check_refusals(tally, program, folder):
     tally.check("more than a million reads", got == (0, b"=abc\n" * MANY, b""), f"{got[0]} {len(got[1])} {got[2]}")
 
 
-def told_on_terminal(program, words, pieces, folder, stdin=subprocess.PIPE):
+def run_on_terminal(program, words, pieces, folder, stdin=subprocess.PIPE):
     """The run with standard error on a terminal, over an input that comes in these pieces, a number among them being a pause
     in seconds, or over a file: status, output, and what the terminal was told."""
     master, slave = pty.openpty()
@@ -332,30 +332,30 @@ def told_on_terminal(program, words, pieces, folder, stdin=subprocess.PIPE):
             running.stdin.close()
         out = running.stdout.read()
         status = running.wait()
-    told = b""
+    terminal = b""
     try:
         while piece := os.read(master, 4096):
-            told += piece
+            terminal += piece
     except OSError:
         # nothing more was told before the terminal was closed
         pass
     os.close(master)
-    return status, out, told
+    return status, out, terminal
 
 
 def check_progress(tally, program, folder):
     """To a terminal the lines and bytes done are told on one line, once a second, and once more at the end of the input."""
-    for name, words, pieces, out, told in (
+    for name, words, pieces, out, terminal in (
             ("a short input", asks("--progress"), [b"a\nb\nc"], b"=a\n=b\n=c\n", b"3 lines, 5 bytes\r\n"),
             ("an empty input", asks("--progress"), [], b"", b"0 lines, 0 bytes\r\n"),
             ("lines that end with NUL", asks("--progress", "--null"), [b"a\nb\0c"], b"=a\nb\0=c\0", b"2 lines, 5 bytes\r\n"),
             ("a slow input", asks("--progress"), [1.5, b"a\nb", 1.5, b"\nc\n"], b"=a\n=b\n=c\n",
              b"2 lines, 3 bytes\r3 lines, 6 bytes\r3 lines, 6 bytes\r\n"),
             ("unasked", asks(), [b"a\n"], b"=a\n", b"")):
-        tally.same(f"progress: {name}", told_on_terminal(program, words, pieces, folder), (0, out, told))
+        tally.same(f"progress: {name}", run_on_terminal(program, words, pieces, folder), (0, out, terminal))
     (folder / "names").write_bytes(b"a\nb\nc")
     with open(folder / "names", "rb") as names:
-        tally.same("progress: a file", told_on_terminal(program, asks("--progress"), [], folder, names), (0, b"=a\n=b\n=c\n", b"3 lines, 5 bytes, 100 %\r\n"))
+        tally.same("progress: a file", run_on_terminal(program, asks("--progress"), [], folder, names), (0, b"=a\n=b\n=c\n", b"3 lines, 5 bytes, 100 %\r\n"))
     (folder / "names").unlink()
 
 
@@ -363,8 +363,8 @@ def keyed_lines():
     """The strings of the fixtures' keys as lines with their answers, by version and form."""
     lines = {}
     for head, string, key in split("KEYS.txt"):
-        told = "!" + key if key.startswith("unassigned") else "=" + string_of(key)
-        lines.setdefault(tuple(head.split()), []).append((string_of(string).encode(), told.encode()))
+        answer = "!" + key if key.startswith("unassigned") else "=" + string_of(key)
+        lines.setdefault(tuple(head.split()), []).append((string_of(string).encode(), answer.encode()))
     return lines
 
 
@@ -396,10 +396,10 @@ def check_caseless_files(tally, program, folder):
         tally.same(f"caseless: file {at} doesn't open", run(program, asks_caselessly(files=files), b"A\n", folder), (DEVICE, b"", b"cannot open nothing\n"))
     for files, line in (([good[2], *good[1:]], b"version 0 data: line 4: FieldCount\n"), ([*good[:2], good[0]], b"version 0 folding: line 1: FieldCount\n")):
         tally.same(line.decode(), run(program, asks_caselessly(files=files), b"A\n", folder), (4, b"", line))
-    for name, data, status, told in split("edges/EXPECTED.txt"):
+    for name, data, status, answer in split("edges/EXPECTED.txt"):
         first = good[0] if data == "v1" else str(FOLDER / "edges" / f"{data}.data")
         words = asks_caselessly(form="nfc", files=[first, good[1], str(FOLDER / "edges" / name)])
-        want = (int(status), b"", f"{told}\n".encode()) if int(status) else (0, f"={string_of(told)}\n".encode(), b"")
+        want = (int(status), b"", f"{answer}\n".encode()) if int(status) else (0, f"={string_of(answer)}\n".encode(), b"")
         tally.same(f"caseless: {name}", run(program, words, b"A\n", folder), want)
 
 

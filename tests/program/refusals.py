@@ -142,8 +142,8 @@ class Refusals:
         with tempfile.NamedTemporaryFile(dir=self.folder.parent) as counts:
             got = self.run(program, words, stdin, REFUSE_COUNTS=counts.name)
             # the program writes the file anew
-            told = Path(counts.name).read_text(encoding="ascii").split()
-        return got, dict(zip(KINDS, map(int, told)))
+            numbers = Path(counts.name).read_text(encoding="ascii").split()
+        return got, dict(zip(KINDS, map(int, numbers)))
 
     def copies(self, program, words, stdin, asked):
         """The ends of the copies of one run, of which each is refused the call of one of the places, with their numbers
@@ -171,14 +171,14 @@ class Refusals:
         return [(place, *found.get(place, NO_END)) for place in places]
 
 
-def ends_in(told):
+def ends_in(written):
     """Each place with the end of its copy and its numbers of calls, of what the shim told of copies."""
-    while told:
-        line, _, told = told.partition(b"\n")
+    while written:
+        line, _, written = written.partition(b"\n")
         place, status, *calls, out, err = map(int, line.split())
-        got = os.waitstatus_to_exitcode(status), told[:out], told[out:out + err]
+        got = os.waitstatus_to_exitcode(status), written[:out], written[out:out + err]
         yield place, (got, dict(zip(KINDS, calls)))
-        told = told[out + err:]
+        written = written[out + err:]
 
 
 def each(kind, count, way=""):
@@ -186,7 +186,7 @@ def each(kind, count, way=""):
     return kind, range(1, count + 1), way
 
 
-def told(got):
+def is_read_failure(got):
     """Whether a run ended in a failed read, told in its line."""
     status, out, err = got
     return (status, out) == (DEVICE, b"") and err.endswith(b": ReadFailed\n") and err.count(b"\n") == 1
@@ -206,7 +206,7 @@ def is_read_failed(got, ample, words):
     status, out, err = got
     if words[:1] == ["normalize"] and err == b"input: ReadFailed\n":
         return status == DEVICE and ample[1].startswith(out)
-    return told(got)
+    return is_read_failure(got)
 
 
 def is_write_failed(got, ample):
@@ -226,14 +226,14 @@ def is_hint_lost(got, ample):
 
 def check_memory(tally, refusals, program, words, stdin, ample, count):
     """Each allocation refused in turn, and all from it on. How many refusals were told."""
-    told = 0
+    times = 0
     for way in ("", "rest"):
         ends = refusals.ends(program, words, stdin, each("memory", count, way))
         wrong = [(asked, got) for asked, got, _ in ends if got != ample and not is_want(got, ample, words) and not is_hint_lost(got, ample)]
         tally.check(f"{' '.join(words)} with each of {count} allocations refused {way}", not wrong,
                     f"got {shown(wrong[:1])}")
-        told += sum(got != ample for _, got, _ in ends) if not way else 0
-    return told
+        times += sum(got != ample for _, got, _ in ends) if not way else 0
+    return times
 
 
 def is_last_call(kind, asked, got, calls, ample):
@@ -331,10 +331,10 @@ def check_program(tally, refusals, program, asked, commands):
     for words, stdin in asked:
         ample, counts = refusals.counted(program, words, stdin)
         tally.same(f"{program.name} {' '.join(words)} with calls counted", ample, run(program, words, stdin, refusals.folder))
-        told = check_memory(tally, refusals, program, words, stdin, ample, counts["memory"])
+        times = check_memory(tally, refusals, program, words, stdin, ample, counts["memory"])
         command = f"{words[0]} {FLAG}" if FLAG in words else "".join(words[:1])
         if command in refused:
-            refused[command] += told
+            refused[command] += times
         check_devices(tally, refusals, program, words, stdin, ample, counts)
     for command, count in refused.items():
         tally.check(f"{program.name} {command} was refused memory", count > 0, "no refused allocation was told")

@@ -35,7 +35,7 @@ ROWS = (
 )
 
 
-def told():
+def page_lines():
     """The lines of the page's section, without their marks."""
     section = (ROOT / "docs" / "npss.1").read_text(encoding="utf-8").partition(".SH IF IT SAYS\n")[2].partition("\n.SH ")[0]
     heads = re.findall(r"^\.TP\n\.BI? (.*)$", section, re.MULTILINE)
@@ -44,7 +44,7 @@ def told():
 
 def check_sayings(tally, program):
     """Each line of the section comes where its cause is, and each has a run here."""
-    plain = [re.sub(r"\s+", "", one) for one in told()]
+    plain = [re.sub(r"\s+", "", one) for one in page_lines()]
     tally.same("lines of IF IT SAYS", sorted(set(plain)), sorted({re.sub(r"\s+", "", row[0]) for row in ROWS}))
     files, why = ucd.package_files()
     if files is None:

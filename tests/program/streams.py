@@ -35,16 +35,16 @@ def wanted(words, out, status, closed):
     """What a run answers with these streams closed: status, output and error."""
     reads = words[:1] in (["key"], ["normalize"], ["compare"])
     if words == ["nothing"]:
-        told = USAGE.encode()
+        stderr = USAGE.encode()
     elif "nothing" in words:
-        told = b"cannot open nothing\n"
+        stderr = b"cannot open nothing\n"
     elif 0 in closed and reads:
-        status, out, told = DEVICE, b"", b"input: ReadFailed\n"
+        status, out, stderr = DEVICE, b"", b"input: ReadFailed\n"
     elif 1 in closed:
-        status, out, told = DEVICE, b"", b"output: WriteFailed\n"
+        status, out, stderr = DEVICE, b"", b"output: WriteFailed\n"
     else:
-        told = b""
-    return status, b"" if 1 in closed else out, b"" if 2 in closed else told
+        stderr = b""
+    return status, b"" if 1 in closed else out, b"" if 2 in closed else stderr
 
 
 def check_closed(tally, program, folder):

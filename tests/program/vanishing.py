@@ -49,9 +49,9 @@ def check_pipes(tally, program, folder):
         feeder.start()
         first = os.read(running.stdout.fileno(), 1)
         running.stdout.close()
-        told = running.stderr.read()
+        stderr = running.stderr.read()
         feeder.join()
-        tally.same("one byte of a long form is read", (first, running.wait(PATIENCE), told), (b"a", DEVICE, UNWRITTEN[2]))
+        tally.same("one byte of a long form is read", (first, running.wait(PATIENCE), stderr), (b"a", DEVICE, UNWRITTEN[2]))
 
 
 def feed(pipe, given):
@@ -88,9 +88,9 @@ def shrunken(program, path, size, folder):
         os.close(writer)
         place = stopped_at(running, handle)
         os.truncate(path, size)
-        out, told = output.read(), running.stderr.read()
+        out, stderr = output.read(), running.stderr.read()
         os.close(handle)
-        return place, running.wait(PATIENCE), out, told
+        return place, running.wait(PATIENCE), out, stderr
 
 
 def check_files(tally, program, folder):
@@ -98,14 +98,14 @@ def check_files(tally, program, folder):
     path = folder.parent / "shrinking"
     letter = text("00E2")
     path.write_bytes(letter * SIZE)
-    place, status, out, told = shrunken(program, path, len(letter), folder)
+    place, status, out, stderr = shrunken(program, path, len(letter), folder)
     tally.check("an input cut before the place is the text so far", 0 < place < 2 * SIZE and place % 2 == 0
-                and (status, out, told) == (0, letter * (place // 2), b""), f"{place} {status} {len(out)} {told}")
+                and (status, out, stderr) == (0, letter * (place // 2), b""), f"{place} {status} {len(out)} {stderr}")
     path.write_bytes(letter * SIZE)
-    place, status, out, told = shrunken(program, path, 2 * SIZE - 1, folder)
+    place, status, out, stderr = shrunken(program, path, 2 * SIZE - 1, folder)
     tally.check("an input cut in a character is no text", 0 < place < 2 * SIZE - 1 and status == BAD_TEXT
-                and (letter * SIZE).startswith(out) and told == f"input: not UTF-8 at byte {2 * SIZE - 2}\n".encode(),
-                f"{place} {status} {len(out)} {told}")
+                and (letter * SIZE).startswith(out) and stderr == f"input: not UTF-8 at byte {2 * SIZE - 2}\n".encode(),
+                f"{place} {status} {len(out)} {stderr}")
     # the first file is a pipe, which holds the program up when all files are open and none is read
     data, waiting = (folder / V1[0]).read_bytes(), folder.parent / "waiting"
     path.write_bytes(data)
@@ -119,8 +119,8 @@ def check_files(tally, program, folder):
                 time.sleep(0.01)
             os.truncate(path, data.index(b"\n") + 3)
             pipe.write(data)
-        out, told = running.stdout.read(), running.stderr.read()
-        tally.same("a data file cut once it is open", (running.wait(PATIENCE), out, told),
+        out, stderr = running.stdout.read(), running.stderr.read()
+        tally.same("a data file cut once it is open", (running.wait(PATIENCE), out, stderr),
                    (BAD_TEXT, b"", b"version 1 data: line 2: FieldCount\n"))
     waiting.unlink()
     path.unlink()

@@ -74,15 +74,15 @@ def imports_of(text):
 
 def clauses_of(lines, at):
     """What stands from a function's head to its body."""
-    taken = []
+    clauses = []
     for line in lines[at:]:
-        taken.append(line)
+        clauses.append(line)
         bare = line.strip()
-        if bare in ("{", "{}") or bare.endswith(";") or (len(taken) == 1 and bare.endswith(("{", "{}"))):
+        if bare in ("{", "{}") or bare.endswith(";") or (len(clauses) == 1 and bare.endswith(("{", "{}"))):
             break
         if bare.endswith(" {") and not bare.startswith(("requires", "ensures")) and "where" not in bare:
             break
-    return [line for line in taken if re.match(r"\s*(requires|ensures|×|→|[^\s].*)", line)]
+    return [line for line in clauses if re.match(r"\s*(requires|ensures|×|→|[^\s].*)", line)]
 
 
 def cited(text, imports):
@@ -92,9 +92,9 @@ def cited(text, imports):
 
 def contract_text(lines, at):
     """The clauses of the function whose head stands at this line, as one text."""
-    taken = clauses_of(lines, at)
-    first = next((place for place, line in enumerate(taken) if line.strip().startswith(("requires", "ensures"))), None)
-    return "" if first is None else "\n".join(taken[first:])
+    clauses = clauses_of(lines, at)
+    first = next((place for place, line in enumerate(clauses) if line.strip().startswith(("requires", "ensures"))), None)
+    return "" if first is None else "\n".join(clauses[first:])
 
 
 def contracts_in(file):

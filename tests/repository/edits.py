@@ -96,9 +96,9 @@ def try_crate(tally, folder, name):
     print(f"{name}: trying its edits of a release ({len(edits)})", flush=True)
     ran = subprocess.run(["rt", "ci", name], cwd=folder, stdin=subprocess.DEVNULL, stdout=subprocess.PIPE, stderr=subprocess.STDOUT, text=True, check=False)
     shutil.rmtree(place)
-    told = dict(re.findall(rf"must-fail {name}/(\S+?\.edit): (.*)", ran.stdout))
+    outcomes = dict(re.findall(rf"must-fail {name}/(\S+?\.edit): (.*)", ran.stdout))
     for edit in edits:
-        said = told.get(edit.name, f"nothing was told of it: {ran.stdout[-500:]}")
+        said = outcomes.get(edit.name, f"nothing was told of it: {ran.stdout[-500:]}")
         tally.check(f"{edit.relative_to(ROOT)} is refused", said.startswith("refused") and SAYS_LITTLE not in said, said)
 
 

@@ -20,7 +20,7 @@ def texts():
                 yield f"{TYPE.findall(source[:found.end()])[-1]}::{variant}", text
 
 
-def told():
+def tested_strings():
     """The strings of the files of unit tests that tell values in words."""
     for path in sorted((ROOT / "crates").glob("*/src/**/*.rt")):
         source = path.read_text(encoding="utf-8")
@@ -30,7 +30,7 @@ def told():
 
 def check_texts(tally):
     """Each text of a fault is one of the strings, with something in each of its places."""
-    strings = set(told())
+    strings = set(tested_strings())
     for name, text in texts():
         shape = re.compile(re.sub(r"\\\{[^}]*\\\}", "[^ ].*", re.escape(text)))
         tally.check(f"the text of {name} is told by a test", any(map(shape.fullmatch, strings)), text)

@@ -133,9 +133,9 @@ def check_manual(tally, usage):
     check_usage_lines(tally, "npss.1", manual, usage)
     statuses = formats.partition("| Status | Meaning |")[2].partition("\n\n")[0]
     for number, meaning in re.findall(r"^\| (\d) \| ([^|]+) \|$", statuses, re.MULTILINE):
-        told = manual.partition("EXIT STATUS")[2].partition(f"\n{number}\n")[2].partition(f"\n{int(number) + 1}\n")[0].lower()
-        missing = [word for word in re.findall(r"[a-z]{4,}", meaning.lower()) if word not in told]
-        tally.check(f"docs/npss.1: status {number}", told and not missing, f"it lacks {missing}")
+        paragraph = manual.partition("EXIT STATUS")[2].partition(f"\n{number}\n")[2].partition(f"\n{int(number) + 1}\n")[0].lower()
+        missing = [word for word in re.findall(r"[a-z]{4,}", meaning.lower()) if word not in paragraph]
+        tally.check(f"docs/npss.1: status {number}", paragraph and not missing, f"it lacks {missing}")
     for limit in ("16,777,216", "4,294,967,295", "65,536", "1,000,000"):
         tally.check(f"docs/npss.1: {limit}", limit in manual and (limit in formats or limit == "4,294,967,295"), "it is not there")
 
@@ -150,8 +150,8 @@ def check_lines_manual(tally):
     check_usage_lines(tally, "npss_lines.1", manual, usage)
     section = formats.partition("## Answers to lines")[2].partition("\n## ")[0]
     for answer in re.findall(r"^\| `(![^`]+)` \|", section, re.MULTILINE):
-        told = all(word in manual for word in re.findall(r"[!A-Za-z0-9-]{2,}", answer))
-        tally.check(f"docs/npss_lines.1: {answer}", told, "it is not there")
+        is_there = all(word in manual for word in re.findall(r"[!A-Za-z0-9-]{2,}", answer))
+        tally.check(f"docs/npss_lines.1: {answer}", is_there, "it is not there")
     for numbers in re.findall(r"^\| ([\d, ]+) \|", section, re.MULTILINE):
         for number in numbers.split(", "):
             tally.check(f"docs/npss_lines.1: status {number}", f"\n{number}\n" in manual, "it is not there")

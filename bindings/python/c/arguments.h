@@ -87,37 +87,37 @@ static inline int form_of(const module_state *state, PyObject *name, uint8_t *fo
     return -1;
 }
 
-/* The arguments behind those by place, which are taken already. */
-static int take_named(PyObject *const *given, PyObject *words, const char *const *names, PyObject **taken) {
+/* The arguments by name, behind those by place, which stand there already. */
+static int parse_named(PyObject *const *given, PyObject *words, const char *const *names, PyObject **arguments) {
     Py_ssize_t named = words ? PyTuple_Size(words) : 0;
     for (Py_ssize_t i = 0; i < named; i++) {
         PyObject *word = PyTuple_GetItem(words, i);
         Py_ssize_t at = 0;
         while (names[at] && PyUnicode_CompareWithASCIIString(word, names[at])) at++;
-        if (!names[at] || taken[at]) {
+        if (!names[at] || arguments[at]) {
             PyErr_Format(PyExc_TypeError, names[at] ? "%R was given twice" : "there is no argument %R", word);
             return -1;
         }
-        taken[at] = given[i];
+        arguments[at] = given[i];
     }
     return 0;
 }
 
 /* The arguments by place or by name; `names` ends in NULL. The first `least` must be there. */
-static inline int take(PyObject *const *given, Py_ssize_t count, PyObject *words, const char *const *names,
-                       Py_ssize_t least, PyObject **taken) {
+static inline int parse_arguments(PyObject *const *given, Py_ssize_t count, PyObject *words, const char *const *names,
+                                  Py_ssize_t least, PyObject **arguments) {
     Py_ssize_t most = 0;
     while (names[most]) {
-        taken[most] = most < count ? given[most] : NULL;
+        arguments[most] = most < count ? given[most] : NULL;
         most++;
     }
     if (count > most) {
         PyErr_Format(PyExc_TypeError, "at most %zd arguments are taken, %zd were given", most, count);
         return -1;
     }
-    if (words && take_named(given + count, words, names, taken)) return -1;
+    if (words && parse_named(given + count, words, names, arguments)) return -1;
     for (Py_ssize_t i = 0; i < least; i++) {
-        if (!taken[i]) {
+        if (!arguments[i]) {
             PyErr_Format(PyExc_TypeError, "the argument '%s' is wanted", names[i]);
             return -1;
         }

@@ -53,13 +53,15 @@ PyObject *tables_decomposition(PyObject *of, PyObject *const *given, Py_ssize_t 
     static const char *const names[] = {"code", "compatible", NULL};
     tables *self = (tables *)of;
     uint8_t room[SMALL_ROOM]; /* a full decomposition has at most 64 code points */
-    PyObject *taken[2];
+    PyObject *arguments[2];
     int compatible;
     npss_answer a;
     uint32_t code;
-    if (take(given, count, words, names, 1, taken) || code_of(taken[0], &code) || (compatible = flag_of(taken[1])) < 0) return NULL;
+    if (parse_arguments(given, count, words, names, 1, arguments) || code_of(arguments[0], &code) ||
+        (compatible = flag_of(arguments[1])) < 0)
+        return NULL;
     a = npss_decomposition(&self->handle, compatible != 0, code, room, sizeof room);
-    if (a.status == NPSS_NO_CODE) return no_code(taken[0]);
+    if (a.status == NPSS_NO_CODE) return no_code(arguments[0]);
     if (a.status != NPSS_DONE) return refuse(self->state, a, NULL);
     return PyUnicode_DecodeUTF8((const char *)room, (Py_ssize_t)a.length, NULL);
 }

@@ -79,11 +79,11 @@ PyObject *tables_answers(PyObject *of, PyObject *const *given, Py_ssize_t count,
     tables *self = (tables *)of;
     maker maker = {ANSWERS, {0, 0}};
     answers made = {NULL, 0, 0, 0};
-    PyObject *taken[4], *written = NULL;
+    PyObject *arguments[4], *written = NULL;
     int caseless;
     bytes lines;
-    if (take(given, count, words, names, 1, taken) || form_of(self->state, taken[1], &maker.asked.form) ||
-        end_of(taken[2], &maker.asked.end) || (caseless = flag_of(taken[3])) < 0 || data_of(taken[0], &lines))
+    if (parse_arguments(given, count, words, names, 1, arguments) || form_of(self->state, arguments[1], &maker.asked.form) ||
+        end_of(arguments[2], &maker.asked.end) || (caseless = flag_of(arguments[3])) < 0 || data_of(arguments[0], &lines))
         return NULL;
     if (caseless) maker.what = CASELESS_ANSWERS;
     if (!answer_pieces(self, &maker, lines, &made))

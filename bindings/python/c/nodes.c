@@ -64,13 +64,13 @@ static PyObject *node_restore(PyObject *class, PyObject *const *given, Py_ssize_
     static const char *const names[] = {"tables", "image", "form", "room", NULL};
     const module_state *state = PyType_GetModuleState((PyTypeObject *)class);
     npss_handle own = {0, NULL};
-    PyObject *taken[4];
+    PyObject *arguments[4];
     npss_answer a;
     bytes image;
     node *made;
-    if (take(given, count, words, names, 2, taken) || data_of(taken[1], &image)) return NULL;
-    taken[1] = taken[0]; /* now the tables, the form and the room stand side by side */
-    if (!(made = unopened((PyTypeObject *)class, state, taken + 1))) {
+    if (parse_arguments(given, count, words, names, 2, arguments) || data_of(arguments[1], &image)) return NULL;
+    arguments[1] = arguments[0]; /* now the tables, the form and the room stand side by side */
+    if (!(made = unopened((PyTypeObject *)class, state, arguments + 1))) {
         let_go(&image);
         return NULL;
     }

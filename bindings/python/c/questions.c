@@ -12,13 +12,13 @@ PyObject *tables_is_normalized(PyObject *of, PyObject *const *given, Py_ssize_t 
     tables *self = (tables *)of;
     npss_handle own = {0, NULL};
     static const char *const names[] = {"text", "form", NULL};
-    PyObject *taken[2];
+    PyObject *arguments[2];
     npss_answer a;
     uint8_t form;
     bytes b;
     int yes;
-    if (take(given, count, words, names, 1, taken) || form_of(self->state, taken[1], &form) ||
-        text_of(taken[0], &b))
+    if (parse_arguments(given, count, words, names, 1, arguments) || form_of(self->state, arguments[1], &form) ||
+        text_of(arguments[0], &b))
         return NULL;
     if (b.length <= LONG_TEXT) {
         a = npss_is_form(&self->handle, form, b.at, (size_t)b.length);
@@ -39,12 +39,12 @@ static PyObject *compare(PyObject *of, question *ask, PyObject *const *given, Py
     static const char *const names[] = {"left", "right", "compatible", NULL};
     tables *self = (tables *)of;
     npss_handle own = {0, NULL};
-    PyObject *taken[3];
+    PyObject *arguments[3];
     npss_answer a;
     bytes left, right;
     int yes, compatible;
-    if (take(given, count, words, names, 2, taken) || text_of(taken[0], &left) || text_of(taken[1], &right) ||
-        (compatible = flag_of(taken[2])) < 0)
+    if (parse_arguments(given, count, words, names, 2, arguments) || text_of(arguments[0], &left) || text_of(arguments[1], &right) ||
+        (compatible = flag_of(arguments[2])) < 0)
         return NULL;
     if (left.length + right.length <= LONG_TEXT) {
         a = ask(&self->handle, compatible != 0, left.at, (size_t)left.length, right.at, (size_t)right.length);
@@ -83,14 +83,14 @@ static npss_answer extension_of(tables *older, tables *newer, comparison *compar
 static int extension(PyObject *of, PyObject *const *given, Py_ssize_t count, PyObject *words, npss_answer *a) {
     static const char *const names[] = {"older", "caseless", NULL};
     tables *self = (tables *)of;
-    PyObject *taken[2];
+    PyObject *arguments[2];
     int caseless;
-    if (take(given, count, words, names, 1, taken) || (caseless = flag_of(taken[1])) < 0) return -1;
-    if (!PyObject_TypeCheck(taken[0], (PyTypeObject *)self->state->of[TABLES_TYPE])) {
-        PyErr_Format(PyExc_TypeError, "a Tables is wanted, not %R", (PyObject *)Py_TYPE(taken[0]));
+    if (parse_arguments(given, count, words, names, 1, arguments) || (caseless = flag_of(arguments[1])) < 0) return -1;
+    if (!PyObject_TypeCheck(arguments[0], (PyTypeObject *)self->state->of[TABLES_TYPE])) {
+        PyErr_Format(PyExc_TypeError, "a Tables is wanted, not %R", (PyObject *)Py_TYPE(arguments[0]));
         return -1;
     }
-    *a = extension_of((tables *)taken[0], self, caseless ? npss_caseless_extends : npss_extends);
+    *a = extension_of((tables *)arguments[0], self, caseless ? npss_caseless_extends : npss_extends);
     return truth_of(self->state, *a);
 }
 

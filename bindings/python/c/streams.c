@@ -14,11 +14,11 @@ PyObject *tables_stream(PyObject *of, PyObject *const *given, Py_ssize_t count, 
     static const char *const names[] = {"form", NULL};
     tables *self = (tables *)of;
     PyTypeObject *class = (PyTypeObject *)self->state->of[STREAM_TYPE];
-    PyObject *taken[1];
+    PyObject *arguments[1];
     npss_answer a;
     uint8_t form;
     stream *made;
-    if (take(given, count, words, names, 0, taken) || form_of(self->state, taken[0], &form)) return NULL;
+    if (parse_arguments(given, count, words, names, 0, arguments) || form_of(self->state, arguments[0], &form)) return NULL;
     if (!(made = (stream *)((allocfunc)PyType_GetSlot(class, Py_tp_alloc))(class, 0))) return NULL; /* zeros: closed */
     made->state = self->state;
     a = npss_stream_new(&made->stream, &self->handle, form);

@@ -93,19 +93,19 @@ static int kind_of(PyObject *caseless, maker *maker) {
 static PyObject *tables_key(PyObject *self, PyObject *const *given, Py_ssize_t count, PyObject *words) {
     static const char *const names[] = {"text", "form", "caseless", NULL};
     maker key = {KEY, {0, 0}};
-    PyObject *taken[3];
-    if (take(given, count, words, names, 1, taken) || form_of(((tables *)self)->state, taken[1], &key.asked.form) ||
-        kind_of(taken[2], &key))
+    PyObject *arguments[3];
+    if (parse_arguments(given, count, words, names, 1, arguments) || form_of(((tables *)self)->state, arguments[1], &key.asked.form) ||
+        kind_of(arguments[2], &key))
         return NULL;
-    return make((tables *)self, &key, taken[0]);
+    return make((tables *)self, &key, arguments[0]);
 }
 
 static PyObject *tables_normalize(PyObject *self, PyObject *const *given, Py_ssize_t count, PyObject *words) {
     static const char *const names[] = {"text", "form", NULL};
     maker form = {FORM, {0, 0}};
-    PyObject *taken[2];
-    if (take(given, count, words, names, 1, taken) || form_of(((tables *)self)->state, taken[1], &form.asked.form)) return NULL;
-    return make((tables *)self, &form, taken[0]);
+    PyObject *arguments[2];
+    if (parse_arguments(given, count, words, names, 1, arguments) || form_of(((tables *)self)->state, arguments[1], &form.asked.form)) return NULL;
+    return make((tables *)self, &form, arguments[0]);
 }
 
 /* Tells in an Unassigned which of several texts it is of, from 0. */
@@ -128,12 +128,14 @@ static PyObject *tables_keys(PyObject *of, PyObject *const *given, Py_ssize_t co
     static const char *const names[] = {"texts", "form", "caseless", NULL};
     tables *self = (tables *)of;
     maker key = {KEY, {0, 0}};
-    PyObject *taken[3], *iterator, *text, *keys;
+    PyObject *arguments[3], *iterator, *text, *keys;
     Py_ssize_t number = 0;
-    if (take(given, count, words, names, 1, taken) || form_of(self->state, taken[1], &key.asked.form) || kind_of(taken[2], &key)) return NULL;
-    if (PyUnicode_Check(taken[0]))
+    if (parse_arguments(given, count, words, names, 1, arguments) || form_of(self->state, arguments[1], &key.asked.form) ||
+        kind_of(arguments[2], &key))
+        return NULL;
+    if (PyUnicode_Check(arguments[0]))
         return PyErr_Format(PyExc_TypeError, "many texts are wanted, as a list of them; key makes the key of one str");
-    if (!(iterator = PyObject_GetIter(taken[0]))) return NULL;
+    if (!(iterator = PyObject_GetIter(arguments[0]))) return NULL;
     keys = PyList_New(0);
     while (keys && (text = PyIter_Next(iterator))) {
         PyObject *made = make(self, &key, text);
@@ -181,12 +183,12 @@ static void ask_once(tables *self) {
 enum { DATA_FILE, EXCLUSIONS_FILE, FOLDING_FILE, FILES };
 
 /* The bytes of the files that were named; those of a folding file that wasn't have no owner. */
-static int take_files(const module_state *state, PyObject *const taken[FILES], bytes files[FILES]) {
+static int read_files(const module_state *state, PyObject *const arguments[FILES], bytes files[FILES]) {
     int failed = 0;
     for (int i = 0; i < FILES && !failed; i++) {
         PyObject *file;
-        if (!taken[i] || (i == FOLDING_FILE && taken[i] == Py_None)) continue;
-        failed = !(file = PyObject_CallFunctionObjArgs(state->of[CONTENTS], taken[i], NULL)) || data_of(file, &files[i]);
+        if (!arguments[i] || (i == FOLDING_FILE && arguments[i] == Py_None)) continue;
+        failed = !(file = PyObject_CallFunctionObjArgs(state->of[CONTENTS], arguments[i], NULL)) || data_of(file, &files[i]);
         Py_XDECREF(file);
     }
     return failed;
@@ -208,16 +210,16 @@ static PyObject *tables_open(PyObject *class, PyObject *const *given, Py_ssize_t
     static const char *const names[] = {"data", "exclusions", "folding", NULL};
     const module_state *state = PyType_GetModuleState((PyTypeObject *)class);
     allocfunc alloc = (allocfunc)PyType_GetSlot((PyTypeObject *)class, Py_tp_alloc);
-    PyObject *taken[FILES];
+    PyObject *arguments[FILES];
     bytes files[FILES] = {{NULL, 0, NULL}, {NULL, 0, NULL}, {NULL, 0, NULL}};
     tables *made = NULL;
     npss_answer a;
-    if (take(given, count, words, names, 2, taken)) return NULL;
-    if (!take_files(state, taken, files) && (made = (tables *)alloc((PyTypeObject *)class, 0))) { /* zeros: closed */
+    if (parse_arguments(given, count, words, names, 2, arguments)) return NULL;
+    if (!read_files(state, arguments, files) && (made = (tables *)alloc((PyTypeObject *)class, 0))) { /* zeros: closed */
         made->state = state;
         a = open_files(&made->handle, files);
         if (a.status != NPSS_DONE) {
-            refuse_files(state, a, taken);
+            refuse_files(state, a, arguments);
             Py_CLEAR(made);
         } else {
             ask_once(made);

@@ -84,8 +84,8 @@ fn matches() {
     for row in rows.iter().filter(|row| !row[3].starts_with('3')) {
         let tables = &versions[usize::from(row[0].starts_with("v2"))];
         let (left, right) = (text_of(&row[1]), text_of(&row[2]));
-        let told = tables.caseless_match(row[0].contains("nfk"), &left, &right);
-        assert_eq!(told, Ok(row[3].starts_with('0')), "{row:?}");
+        let answer = tables.caseless_match(row[0].contains("nfk"), &left, &right);
+        assert_eq!(answer, Ok(row[3].starts_with('0')), "{row:?}");
     }
     assert_eq!(
         versions[0].caseless_match(false, "A\u{16d67}", "a\u{16d67}"),
@@ -132,19 +132,19 @@ fn extension() {
 fn without_foldings() {
     let data = bytes("v1/UnicodeData.txt");
     let tables = Tables::open(&data, &bytes("v1/CompositionExclusions.txt")).unwrap();
-    let told = "the tables were opened without CaseFolding.txt";
+    let text = "the tables were opened without CaseFolding.txt";
     for tables in [&tables, &tables.share().unwrap()] {
         let error = tables.caseless_key(Form::Nfc, "A").unwrap_err();
         assert_eq!(
             (error, error.to_string().as_str()),
-            (KeyError::NoFolding, told)
+            (KeyError::NoFolding, text)
         );
         let lines = tables.caseless_answers(Form::Nfc, LineEnd::Lf, b"A");
         assert_eq!(lines, Err(CaselessError::NoFolding));
         let error = tables.caseless_match(false, "A", "a").unwrap_err();
         assert_eq!(
             (error, error.to_string().as_str()),
-            (CaselessError::NoFolding, told)
+            (CaselessError::NoFolding, text)
         );
     }
 }
@@ -173,13 +173,13 @@ fn files_at_the_edges() {
 fn which_file_is_faulty() {
     let none = |files: [&[u8]; 3]| Tables::open_caseless(files[0], files[1], files[2]).unwrap_err();
     let faulty: &[u8] = b"0041; Q; 0061;\n";
-    let told = |files| none(files).to_string();
+    let text = |files| none(files).to_string();
     assert_eq!(
-        told([b"0041;x\n", b"none", faulty]),
+        text([b"0041;x\n", b"none", faulty]),
         "data: line 1: FieldCount"
     );
-    assert_eq!(told([b"", b"none", faulty]), "exclusions: line 1: BadCode");
-    assert_eq!(told([b"", b"", faulty]), "folding: line 1: BadStatus");
+    assert_eq!(text([b"", b"none", faulty]), "exclusions: line 1: BadCode");
+    assert_eq!(text([b"", b"", faulty]), "folding: line 1: BadStatus");
     match none([b"", b"", b"0041; C; 0061;\n"]) {
         OpenError::Foldings { code, name } => {
             assert_eq!((code, &*name), (0x41, "FoldsUnassigned"))

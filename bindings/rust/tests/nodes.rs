@@ -101,17 +101,17 @@ fn messages_reach_other_nodes() {
     assert_eq!(home.message("a\u{302}"), Ok(None));
     assert_eq!(home.message(""), Ok(None));
     home.accept("a\u{302}").unwrap();
-    let told = home.message("a\u{302}").unwrap().unwrap();
+    let sent = home.message("a\u{302}").unwrap().unwrap();
     assert_eq!(
-        told,
+        sent,
         message(b'C', "a\u{302}".as_bytes(), "\u{e2}".as_bytes())
     );
-    assert_eq!(away.take(&told), Ok(Accepted::Kept));
-    assert_eq!(away.take(&told), Ok(Accepted::Known));
-    let mut more = told.clone();
+    assert_eq!(away.take(&sent), Ok(Accepted::Kept));
+    assert_eq!(away.take(&sent), Ok(Accepted::Known));
+    let mut more = sent.clone();
     more.push(0);
     for (bytes, refused) in [
-        (more.as_slice(), Refused::Malformed { at: told.len() }),
+        (more.as_slice(), Refused::Malformed { at: sent.len() }),
         (b"", Refused::Malformed { at: 0 }),
         (&message(b'D', b"a", b"a"), Refused::OtherForm),
         (&message(b'C', b"a", b"A"), Refused::KeyDiffers),

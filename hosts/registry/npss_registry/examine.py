@@ -6,7 +6,7 @@ from npss import Tables, Unassigned
 
 from npss_registry import records
 from npss_registry.errors import LogBroken
-from npss_registry.records import Claim, Forget, Record, Setup, Snapshot
+from npss_registry.records import Claim, Forget, RegistryRecord, Setup, Snapshot
 
 
 class Examiner:
@@ -20,7 +20,7 @@ class Examiner:
         self._form_byte = records.form_byte(setup.form)
         self._layout = 2 if setup.name else 1
 
-    def record(self, place: int, body: bytes, first: bool) -> Record:
+    def record(self, place: int, body: bytes, first: bool) -> RegistryRecord:
         """The record of bytes at a place. `first` is whether it is the shard's first one."""
         record = records.read(place, body, self._layout, self.setup.caseless)
         if isinstance(record, Claim) and not first:
@@ -31,7 +31,7 @@ class Examiner:
             self._check_shard(place, self._made(self.setup.caseless, record.string))
         return record
 
-    def _check_setup(self, place: int, record: Record, first: bool) -> None:
+    def _check_setup(self, place: int, record: RegistryRecord, first: bool) -> None:
         setup = record.setup if isinstance(record, Snapshot) else record
         if not isinstance(setup, Setup):
             raise LogBroken(place, "no setup stands before it")

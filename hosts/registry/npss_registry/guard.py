@@ -71,7 +71,7 @@ class Guard:
         except Exception as error:  # of which the client was told already
             LOGGER.error("%s %s: %s: %s", scope["method"], self._path(scope), type(error).__name__, error)
         finally:
-            self._metrics.taken(self._path(scope), time.monotonic() - begun)
+            self._metrics.observe_seconds(self._path(scope), time.monotonic() - begun)
 
     def _path(self, scope: Scope) -> str:
         path: str = scope["path"]

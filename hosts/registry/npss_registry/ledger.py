@@ -88,7 +88,7 @@ class Ledger:
         """What is registered in the end, in the order of its places."""
         return [Name(one.place, one.string, one.key, one.owner, one.caseless) for one in self._by_string.values()]
 
-    def _add(self, place: int, record: records.Record) -> None:
+    def _add(self, place: int, record: records.RegistryRecord) -> None:
         if isinstance(record, Claim):
             self._claim(place, record)
         elif isinstance(record, SnapshotSum):

@@ -78,7 +78,7 @@ class Metrics:
         with self._lock:
             self._untold[kind] = self._untold.get(kind, 0) + 1
 
-    def taken(self, path: str, seconds: float) -> None:
+    def observe_seconds(self, path: str, seconds: float) -> None:
         """How long a request took."""
         self._seconds.labels(path).observe(seconds)
 

@@ -108,7 +108,7 @@ class Name(NamedTuple):
     caseless: Optional[str] = None
 
 
-Record = Union[Setup, Claim, Forget, End, Snapshot, SnapshotSum]
+RegistryRecord = Union[Setup, Claim, Forget, End, Snapshot, SnapshotSum]
 
 
 def form_byte(form: Form) -> bytes:
@@ -140,7 +140,7 @@ def form_of(name: object) -> Form:
     raise ValueError(f"{name!r} is no form")
 
 
-def spelled(record: Record) -> bytes:
+def spelled(record: RegistryRecord) -> bytes:
     """The bytes of a record, JSON that a person can read. No two calls answer the same bytes."""
     if isinstance(record, Claim):
         fields: dict[str, object] = {"claim": base64.b64encode(record.message).decode(), "owner": record.owner}
@@ -167,7 +167,7 @@ def _fields_of(setup: Setup) -> dict[str, object]:
     return {**fields, "caseless": True} if setup.caseless else fields
 
 
-def read(place: int, body: bytes, layout: int = 1, caseless: bool = False) -> Record:
+def read(place: int, body: bytes, layout: int = 1, caseless: bool = False) -> RegistryRecord:
     """The record of bytes at a place of a log that begins with a setup of a layout. LogBroken where they are none.
 
     In a `caseless` log a claim without its caseless key is none. In another log what stands there of it isn't read.
@@ -184,7 +184,7 @@ def read(place: int, body: bytes, layout: int = 1, caseless: bool = False) -> Re
         raise LogBroken(place, f"what stands there is no record: {error!r}") from error
 
 
-def _record(fields: dict[str, object], caseless: bool) -> Record:
+def _record(fields: dict[str, object], caseless: bool) -> RegistryRecord:
     """The record of what was spelled. KeyError, TypeError or ValueError where it is none."""
     if "claim" in fields:
         key = _text(fields["caseless"]) if caseless else None

@@ -259,7 +259,7 @@ def _is_begun(name: str) -> bool:
         log.close()
 
 
-def _last_records(log: Log, shards: int) -> list[Optional[records.Record]]:
+def _last_records(log: Log, shards: int) -> list[Optional[records.RegistryRecord]]:
     """The last record of each shard; None of an empty one."""
     return [None if body is None else records.read(place, body) for place, body in last_bodies(log, shards)]
 

@@ -9,7 +9,7 @@ from npss_registry import records, snapshots
 from npss_registry.errors import LogBroken, LogEnded, LogTrimmed, NotOneChain, StoreError
 from npss_registry.examine import Examiner
 from npss_registry.logs import PIECE, Log, may_go_on, record_at
-from npss_registry.records import Claim, End, Forget, Name, Record, Snapshot, SnapshotSum
+from npss_registry.records import Claim, End, Forget, Name, RegistryRecord, Snapshot, SnapshotSum
 from npss_registry.store import Event, Registration, Store
 
 # An image is saved when so many records were read behind the last one.
@@ -117,14 +117,14 @@ class Shard:
         self._sum = total
         self._established = total, image_total
 
-    def _record(self, place: int, body: bytes, first: bool = False) -> Record:
+    def _record(self, place: int, body: bytes, first: bool = False) -> RegistryRecord:
         """The record of bytes at a place, which was examined."""
         return self._examiner.record(place, body, first)
 
-    def _redo_one(self, place: int, record: Record) -> None:
+    def _redo_one(self, place: int, record: RegistryRecord) -> None:
         if isinstance(record, Claim):
             if self._store.at(self.number, place):
-                self._take(place, record)
+                self._take_claim(place, record)
         elif isinstance(record, Forget):
             named = self._store.at(self.number, record.place)
             if named and named.ended == place:
@@ -208,7 +208,7 @@ class Shard:
         if self.end is not None:
             raise LogEnded(*self.end)
 
-    def _apply_one(self, place: int, record: Record) -> Outcome:
+    def _apply_one(self, place: int, record: RegistryRecord) -> Outcome:
         if isinstance(record, Claim):
             return self._claim(place, record)
         if isinstance(record, Forget):
@@ -235,13 +235,13 @@ class Shard:
 
     def _add(self, place: int, claim: Claim) -> Registration:
         """Registers a claim."""
-        refused = self._take(place, claim)
+        refused = self._take_claim(place, claim)
         new = Registration(place, claim.string, claim.key, claim.owner, refused, refused is not None, None, claim.caseless)
         self._store.register(self.number, new)
         self._count += 1
         return new
 
-    def _take(self, place: int, claim: Claim) -> Optional[str]:
+    def _take_claim(self, place: int, claim: Claim) -> Optional[str]:
         """Hands a claim's message to the node; why it is parked, where the node lacks a code point."""
         try:
             accepted = self.node.take(claim.message)
@@ -311,7 +311,7 @@ class Shard:
             if claim.string in self.node:
                 raise StoreError(f"{self._store.path}: it marks {claim.string!r} as parked, which its node keeps; see `npss-registry check`")
             self._examiner.claim(place, claim)
-            if self._take(place, claim) is None:
+            if self._take_claim(place, claim) is None:
                 self._store.unpark(self.number, place)
                 self._store.note(self.number, Event("taken", place, version))
         self.save()

@@ -90,8 +90,8 @@ class CaselessJudging(CaselessCase):
         node = self.node("one", files)
         held = {}
         for number, (name, key) in enumerate(names.items()):
-            told = node.claim(name, str(number))
-            self.assertEqual((told.holder.string, told.holder.caseless), (held.setdefault(key, name), key))
+            outcome = node.claim(name, str(number))
+            self.assertEqual((outcome.holder.string, outcome.holder.caseless), (held.setdefault(key, name), key))
         node.close()
         self.assertEqual(self.judged(node.store.path), [])
         answers = CaselessKeys(PROGRAM, "nfkc", files).answers(names)
@@ -172,8 +172,8 @@ class CaselessTrims(CaselessCase):
         trim(paths, PROGRAM)
         with closing(sqlite3.connect(self.log)) as base:
             (part,), (end,) = base.execute("SELECT part FROM kept ORDER BY number").fetchall()
-        told, sums = json.loads(zlib.decompress(part)), json.loads(end)
-        self.assertEqual([row[4] for row in told], ["a", "aa", "\u00e2", "ii"])
+        entries, sums = json.loads(zlib.decompress(part)), json.loads(end)
+        self.assertEqual([row[4] for row in entries], ["a", "aa", "\u00e2", "ii"])
         self.store("anew")
 
         def changes(rows):
@@ -182,14 +182,14 @@ class CaselessTrims(CaselessCase):
             return (("UPDATE kept SET part = ? WHERE number = 0", zlib.compress(json.dumps(rows).encode())),
                     ("UPDATE kept SET part = ? WHERE number = 1", json.dumps({**sums, "names": count, "sum": made.hex()}).encode()))
 
-        for rows, why in (([row[:4] for row in told], "no caseless key"), ([[*told[0][:4], "i"], *told[1:]], "its caseless key"),
-                          ([[*row[:4], "a"] for row in told], "its caseless key")):
+        for rows, why in (([row[:4] for row in entries], "no caseless key"), ([[*entries[0][:4], "i"], *entries[1:]], "its caseless key"),
+                          ([[*row[:4], "a"] for row in entries], "its caseless key")):
             changed(self.log, *changes(rows))
             node = Registry(str(self.folder / "anew"))
             self.assertRaisesRegex(LogBroken, why, node.catch_up)
             node.abandon()
             self.assertTrue(self.judged(paths[0]), why)
-        changed(self.log, ("UPDATE kept SET part = ? WHERE number = 0", zlib.compress(json.dumps([row[:4] for row in told]).encode())),
+        changed(self.log, ("UPDATE kept SET part = ? WHERE number = 0", zlib.compress(json.dumps([row[:4] for row in entries]).encode())),
                 ("UPDATE kept SET part = ? WHERE number = 1", json.dumps(sums).encode()))
         node = Registry(str(self.folder / "anew"))
         self.assertRaisesRegex(LogBroken, "its sum is another one", node.catch_up)
@@ -278,23 +278,23 @@ class CaselessServing(CaselessCase, ServingCase):
     def test_names_over_http(self):
         server = self.serve()
         self.assertEqual(self.ask(server, "/claim", claim("A"))[0], 201)
-        status, told = self.ask(server, "/claim", claim("a", "y"))
-        self.assertEqual((status, told["holder"]["name"], told["holder"]["key"], told["holder"]["caseless"]), (409, "A", "A", "a"))
+        status, answer = self.ask(server, "/claim", claim("a", "y"))
+        self.assertEqual((status, answer["holder"]["name"], answer["holder"]["key"], answer["holder"]["caseless"]), (409, "A", "A", "a"))
         self.assertEqual(self.ask(server, "/find", {"name": "a"}, None)[1][0]["owner"], "x")
         self.assertEqual(self.ask(server, "/same", {"left": "A", "right": "A"}, None), (200, {"same": True}))
         self.assertEqual(self.ask(server, "/same", {"left": "A", "right": "a"}, None), (404, {"same": None}))
         self.assertIs(self.ask(server, "/status", None, None)[1]["caseless"], True)
-        self.assertRegex(server.told(r"serves .*; node .*")[0], ", caseless NFKC, version 1 of Unicode")
+        self.assertRegex(server.wait_for(r"serves .*; node .*")[0], ", caseless NFKC, version 1 of Unicode")
 
     def test_pages(self):
         server = self.serve()
         self.ask(server, "/claim", claim("A"))
         self.assertIn("caseless, form NFKC", self.page(server, "/"))
         self.assertIn("0041", self.page(server, "/search", {"name": "a"}))
-        told = self.page(server, "/why", {"left": "A\u0302", "right": "\u00e2"})
+        why_page = self.page(server, "/why", {"left": "A\u0302", "right": "\u00e2"})
         for words in ("The same name", "their caseless keys under NFKC are equal", "<th>folding</th>", "Capitals and small letters are one"):
-            self.assertIn(words, told)
-        self.assertTrue(re.search(r"0041</span></td><td>X</td>.*<td><span class=\"code\">0061</span></td></tr>", told), told)
-        self.assertNotIn("capitals and small letters,", told)
+            self.assertIn(words, why_page)
+        self.assertTrue(re.search(r"0041</span></td><td>X</td>.*<td><span class=\"code\">0061</span></td></tr>", why_page), why_page)
+        self.assertNotIn("capitals and small letters,", why_page)
         self.assertIn("their caseless keys under NFKC differ first at code point 1", self.page(server, "/why", {"left": "A", "right": "f"}))
         self.assertIn("can't be told", self.page(server, "/why", {"left": YOUNG_A, "right": "A"}).replace("&#x27;", "'"))

@@ -66,10 +66,10 @@ class Caseless(CaselessCase):
                     self.assertRaises(Unassigned, node.claim, string, "x")
                     self.assertRaises(Unassigned, node.find, string)
                     continue
-                told = node.claim(string, f"owner {number}")
+                outcome = node.claim(string, f"owner {number}")
                 wanted = held.setdefault(key, (string, f"owner {number}"))
-                self.assertEqual((told.what, told.holder.string, told.holder.owner), ("registered" if wanted[0] == string and told.new else "taken", *wanted))
-                self.assertEqual(told.new, wanted == (string, f"owner {number}"))
+                self.assertEqual((outcome.what, outcome.holder.string, outcome.holder.owner), ("registered" if wanted[0] == string and outcome.new else "taken", *wanted))
+                self.assertEqual(outcome.new, wanted == (string, f"owner {number}"))
                 self.assertEqual([(row.string, row.owner, row.caseless) for row in node.find(string)], [(*wanted, key)])
             self.assertEqual(sum(len(shard.node) for shard in node.shards), len(held))
             self.assertGreater(len(held), 10)
@@ -124,9 +124,9 @@ class CaselessLogs(CaselessCase):
         node = self.node("one")
         node.claim("\ue000", "x")
         node.forget("\ue000")
-        told = [json.loads(body) for _, body in self.bodies()]
-        self.assertEqual((told[0]["setup"], told[0]["caseless"], told[1]["caseless"], "caseless" in told[2]), (4, True, "aa", False))
-        self.assertEqual(base64.b64decode(told[1]["claim"]), message("nfkc", "\ue000", "\ue000"))
+        records = [json.loads(body) for _, body in self.bodies()]
+        self.assertEqual((records[0]["setup"], records[0]["caseless"], records[1]["caseless"], "caseless" in records[2]), (4, True, "aa", False))
+        self.assertEqual(base64.b64decode(records[1]["claim"]), message("nfkc", "\ue000", "\ue000"))
         snapshot = spelled(Snapshot(node.setup))
         self.assertEqual((json.loads(snapshot)["setup"], read(1, snapshot).setup), (5, node.setup))
 
@@ -146,17 +146,17 @@ class CaselessLogs(CaselessCase):
         self.assertEqual(self.judged(path), [])
 
     def test_what_is_no_setup(self):
-        told = json.loads(spelled(replace(self.setup, name="n")))
+        fields = json.loads(spelled(replace(self.setup, name="n")))
         for words in ({"caseless": 1}, {"caseless": None}, {"caseless": "true"}, {"equivalents": True}):
-            self.assertRaisesRegex(LogBroken, "is no record", read, 1, json.dumps({**told, **words}).encode(), 2)
-        self.assertEqual(read(1, json.dumps({**told, "setup": 2, "caseless": False}).encode(), 2), replace(self.setup, name="n", caseless=False))
+            self.assertRaisesRegex(LogBroken, "is no record", read, 1, json.dumps({**fields, **words}).encode(), 2)
+        self.assertEqual(read(1, json.dumps({**fields, "setup": 2, "caseless": False}).encode(), 2), replace(self.setup, name="n", caseless=False))
 
     def test_an_older_program_reads_no_setup_of_a_caseless_log(self):
         """It knows the setups 1 to 3, and passes over a word that it doesn't know: so a caseless log has none of them, and another log no other."""
-        told = json.loads(spelled(replace(self.setup, name="n")))
+        fields = json.loads(spelled(replace(self.setup, name="n")))
         for number in range(2, 7):
             for caseless, own in ({"caseless": True}, (4, 5)), ({"caseless": False}, (2, 3)), ({}, (2, 3)):
-                record = {name: one for name, one in {**told, "setup": number}.items() if name != "caseless"} | caseless
+                record = {name: one for name, one in {**fields, "setup": number}.items() if name != "caseless"} | caseless
                 if number in own:
                     found = read(1, json.dumps(record).encode(), 2)
                     self.assertIs((found.setup if isinstance(found, Snapshot) else found).caseless, bool(caseless.get("caseless")), record)
@@ -165,10 +165,10 @@ class CaselessLogs(CaselessCase):
 
     def test_a_claim_without_its_caseless_key_is_no_record(self):
         for string, key in (("A", "A"), (YOUNG, YOUNG), (YOUNG_A, YOUNG_A)):
-            for told in ({}, {"caseless": None}, {"caseless": 7}, {"caseless": "\ud800"}):
-                self.log = str(self.folder / f"{ord(string)} {told!r}")
-                node = self.node(f"store {ord(string)} {told!r}")
-                place = self.written(json.dumps({**json.loads(self.claim(string, key, None)), **told}).encode())
+            for words in ({}, {"caseless": None}, {"caseless": 7}, {"caseless": "\ud800"}):
+                self.log = str(self.folder / f"{ord(string)} {words!r}")
+                node = self.node(f"store {ord(string)} {words!r}")
+                place = self.written(json.dumps({**json.loads(self.claim(string, key, None)), **words}).encode())
                 with self.assertRaisesRegex(LogBroken, "is no record") as caught:
                     node.catch_up()
                 self.assertEqual(caught.exception.place, place)
@@ -230,14 +230,14 @@ class CaselessStores(CaselessCase):
             with self.assertRaises(SystemExit) as caught:
                 self.run_words("init", *words, *log)
             self.assertEqual(caught.exception.code, 2)
-        told = "form nfkc, caseless, room 65536, shards 1, equivalents refused, names of at most 1024 bytes\n"
-        self.assertEqual(self.run_words("init", "--caseless", path, *FOLDED_OLD, "--form", "nfkc", *log), (0, told, ""))
+        output = "form nfkc, caseless, room 65536, shards 1, equivalents refused, names of at most 1024 bytes\n"
+        self.assertEqual(self.run_words("init", "--caseless", path, *FOLDED_OLD, "--form", "nfkc", *log), (0, output, ""))
         other = str(self.folder / "two")
         self.assertEqual(self.run_words("init", other, *OLD, *log)[0], 4)
         self.assertRegex(self.run_words("init", other, *OLD, "--form", "nfkc", *log)[2], "third file")
         self.assertRegex(self.run_words("init", other, *FOLDED_OLD, "--equivalents", "--form", "nfkc", *log)[2], "set up otherwise")
-        self.assertEqual(self.run_words("init", other, *FOLDED_OLD, *log), (0, told, ""))
-        self.assertEqual(self.run_words("init", str(self.folder / "three"), *FOLDED_OLD, "--form", "nfkc", *log), (0, told, ""))
+        self.assertEqual(self.run_words("init", other, *FOLDED_OLD, *log), (0, output, ""))
+        self.assertEqual(self.run_words("init", str(self.folder / "three"), *FOLDED_OLD, "--form", "nfkc", *log), (0, output, ""))
         self.assertEqual(self.run_words("claim", path, "A", "--owner", "x"), (0, "registered 'A' of 'x' at place 2\n", ""))
         self.assertEqual(self.run_words("claim", other, "a", "--owner", "y"), (1, "taken 'A' of 'x' at place 2\n", ""))
         self.assertEqual(self.run_words("find", other, "a"), (0, "2\t'A'\tx\n", ""))
@@ -278,8 +278,8 @@ class CaselessVersions(CaselessCase):
 
     def test_a_lagging_node_counts_the_caseless_key_of_a_parked_name(self):
         old, new = self.node("old"), self.node("new", FOLDED_NEW)
-        told = new.claim(YOUNG_A, "x")
-        self.assertEqual((told.holder.key, told.holder.caseless), (YOUNG_A, "a"))
+        outcome = new.claim(YOUNG_A, "x")
+        self.assertEqual((outcome.holder.key, outcome.holder.caseless), (YOUNG_A, "a"))
         for name in ("a", "A"):
             taken = old.claim(name, "y")
             self.assertEqual((taken.what, taken.holder.string, taken.holder.parked), ("taken", YOUNG_A, True))

@@ -79,13 +79,13 @@ def earlier(path, *scripts):
 def first_record(kind, *words, form=b"C"):
     """A record of the first layout, as 0.2.0 spells it: `setup`, `claim STRING KEY OWNER` or `forget STRING PLACE`."""
     if kind == "setup":
-        told = {"setup": 1, "form": "nfc", "room": 100, "shards": 1, "equivalents": False}
+        fields = {"setup": 1, "form": "nfc", "room": 100, "shards": 1, "equivalents": False}
     elif kind == "forget":
-        told = {"forget": words[0], "place": words[1]}
+        fields = {"forget": words[0], "place": words[1]}
     else:
         parts = [len(word.encode()).to_bytes(4, "big") + word.encode() for word in words[:2]]
-        told = {"claim": b64encode(form + b"".join(parts)).decode(), "owner": words[2]}
-    return json.dumps(told, ensure_ascii=False, separators=(",", ":")).encode()
+        fields = {"claim": b64encode(form + b"".join(parts)).decode(), "owner": words[2]}
+    return json.dumps(fields, ensure_ascii=False, separators=(",", ":")).encode()
 
 
 @contextlib.contextmanager

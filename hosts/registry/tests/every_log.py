@@ -87,7 +87,7 @@ class EveryLog(LogTrims):
         self.assertIsNone(record_at(other, 0, mine[-1] + 1))
 
     def test_records_become_visible_in_their_order(self):
-        log, told, failed = self.opened(), [], []
+        log, appended, failed = self.opened(), [], []
         log.begin([(shard, b"first") for shard in range(10)])
         before = log.lasts(6)[5]
 
@@ -96,7 +96,7 @@ class EveryLog(LogTrims):
                 mine = self.opened(how="use")
                 for turn in range(BATCHES):
                     batch = [(5, b"%d %d %d" % (number, turn, one)) for one in range(3)] + [(6 + number, b"x")]
-                    told.extend(zip(mine.append(batch)[:3], (body for _, body in batch[:3])))
+                    appended.extend(zip(mine.append(batch)[:3], (body for _, body in batch[:3])))
             except Exception as error:
                 failed.append(repr(error))
 
@@ -110,7 +110,7 @@ class EveryLog(LogTrims):
             at = piece[-1][0] if piece else at
         self.assertEqual(failed, [])
         self.assertEqual(len(seen), WRITERS * BATCHES * 3)
-        self.assertEqual(seen, sorted(told))
+        self.assertEqual(seen, sorted(appended))
         self.assertEqual(seen, self.opened(how="use").read(5, before, 10_000))
 
     def test_many_records(self):
@@ -152,9 +152,9 @@ class EveryLog(LogTrims):
         written = []
         writing = threading.Timer(0.5, lambda: written.append((other.append([(2, b"record")]), time.monotonic())))
         writing.start()
-        told, heard = log.news(known, 5), time.monotonic()
+        lasts, heard = log.news(known, 5), time.monotonic()
         writing.join()
-        self.assertEqual(told, [*known[:2], written[0][0][0]])
+        self.assertEqual(lasts, [*known[:2], written[0][0][0]])
         self.assertLess(heard - written[0][1], 1)
 
     def test_a_silent_log_is_away_within_its_patience(self):

@@ -160,9 +160,9 @@ class RedisServer(Servers):
         return f"redis://127.0.0.1:{(ports or self.ports)[0]}/0#{prefix}"
 
     def start(self, **settings):
-        told = {**self.settings, **{name.replace("_", "-"): value for name, value in settings.items()}}
+        words = {**self.settings, **{name.replace("_", "-"): value for name, value in settings.items()}}
         self.process = subprocess.Popen(["redis-server", "--port", str(self.port), "--bind", "127.0.0.1", "--dir", str(self.folder), "--save", "",
-                                         *(word for name, value in told.items() for word in (f"--{name}", value))], stdout=subprocess.DEVNULL)
+                                         *(word for name, value in words.items() for word in (f"--{name}", value))], stdout=subprocess.DEVNULL)
         waited(lambda: listens(self.port))
 
     def pids(self):
@@ -361,14 +361,14 @@ class Etcd(Servers):
         with (self.folder / f"m{number}.log").open("a", encoding="utf-8") as log:
             self.running[number] = subprocess.Popen(["etcd", *map(str, words)], stdin=subprocess.DEVNULL, stdout=log, stderr=log)
 
-    def ask(self, number, path, told):
+    def ask(self, number, path, request):
         """What one member answers; None where it doesn't."""
         import http.client
         import json
 
         line = http.client.HTTPConnection("127.0.0.1", self.ports[number], timeout=2)
         try:
-            line.request("POST", path, json.dumps(told))
+            line.request("POST", path, json.dumps(request))
             answer = line.getresponse()
             return json.loads(answer.read()) if answer.status == 200 else None
         except (OSError, http.client.HTTPException, ValueError):
@@ -379,8 +379,8 @@ class Etcd(Servers):
     def leader(self):
         """The number of the member that leads; None where none does."""
         for number in range(3):
-            told = self.ask(number, "/v3/maintenance/status", {})
-            if told and told.get("leader") == told["header"]["member_id"]:
+            answer = self.ask(number, "/v3/maintenance/status", {})
+            if answer and answer.get("leader") == answer["header"]["member_id"]:
                 return number
         return None
 

@@ -177,22 +177,22 @@ class PostgresFaults(PostgresCase):
         self.assertEqual([body for _, body in log.read(0, 0, 9)], [b"before", b"alone", b"behind"])
 
     def test_a_wait_that_somebody_cancels_is_no_answer(self):
-        log, told = self.opened(patience=20), []
+        log, outcomes = self.opened(patience=20), []
         log.append([(0, b"before")])
         with self.without_standbys():
             def write():
                 try:
-                    told.append(log.append([(0, b"alone")]))
+                    outcomes.append(log.append([(0, b"alone")]))
                 except LogAway as error:
-                    told.append(str(error))
+                    outcomes.append(str(error))
 
             writing = threading.Thread(target=write)
             writing.start()
             waited(lambda: self.servers.ask(self.servers.primary, HANGING) == 1)
             self.servers.ask(self.servers.primary, "SELECT count(pg_cancel_backend(pid)) FROM pg_stat_activity WHERE wait_event = 'SyncRep'")
             writing.join()
-        self.assertEqual(len(told), 1)
-        self.assertRegex(str(told[0]), "whether a standby has it isn't known: canceling")
+        self.assertEqual(len(outcomes), 1)
+        self.assertRegex(str(outcomes[0]), "whether a standby has it isn't known: canceling")
 
     def test_while_standbys_are_away_one_process_of_the_server_waits(self):
         logs = [self.opened() for _ in range(3)]

@@ -131,17 +131,17 @@ class RedisSettings(Case):
         self.assertEqual(log.read(0, 0, 9), [(1, b"before"), (place, b"behind")])
 
     def test_who_waits_for_news_waits_for_a_safe_server(self):
-        server, told, health = self.server(), [], Health()
+        server, looks, health = self.server(), [], Health()
         server.set(appendfsync="no")
         with self.assertLogs("npss_registry", "INFO") as logs:
-            watch = Watch(server.log, 1, health, told.append)
+            watch = Watch(server.log, 1, health, looks.append)
             watch.start()
             self.addCleanup(watch.stop)
             self.until(lambda: health.log.why)
-            self.assertEqual(told, [])
+            self.assertEqual(looks, [])
             server.set(appendfsync="always")
-            self.until(lambda: told)
-        self.assertEqual((told[0], health.log.why), ([0], None))
+            self.until(lambda: looks)
+        self.assertEqual((looks[0], health.log.why), ([0], None))
         self.assertRegex("\n".join(logs.output), "(?s)the log is away: .*appendfsync always.*the log is back")
 
     def until(self, true, seconds=15):
@@ -161,8 +161,8 @@ class RedisSettings(Case):
         from npss_registry.logs import redis_log
 
         server = self.server()
-        told = server.client().info("server")["redis_version"]
-        with patch.object(redis_log, "LEAST_VERSION", int(told.partition(".")[0]) + 1), self.assertRaisesRegex(LogUnsafe, f"is of version {told}"):
+        redis_version = server.client().info("server")["redis_version"]
+        with patch.object(redis_log, "LEAST_VERSION", int(redis_version.partition(".")[0]) + 1), self.assertRaisesRegex(LogUnsafe, f"is of version {redis_version}"):
             open_log(server.log, "make")
 
     def test_a_server_goes_on_over_one_that_is_mended(self):

@@ -58,9 +58,9 @@ class Pasts(Case):
         node.claim("a", "x")
         node.forget("a")
         node.claim("a", "x")
-        told = [json.loads(body) for _, body in self.bodies()]
-        self.assertEqual({len(b64decode(one["nonce"], validate=True)) for one in told}, {16})
-        self.assertEqual(len({one["nonce"] for one in told}), 4)
+        records = [json.loads(body) for _, body in self.bodies()]
+        self.assertEqual({len(b64decode(one["nonce"], validate=True)) for one in records}, {16})
+        self.assertEqual(len({one["nonce"] for one in records}), 4)
         claim = claim_of(message("nfc", "a", "a"), "x")
         self.assertNotEqual(spelled(claim), spelled(claim))
 

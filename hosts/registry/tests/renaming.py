@@ -28,13 +28,13 @@ class Renaming(Case):
         with contextlib.closing(sqlite3.connect(self.log)) as base, contextlib.closing(sqlite3.connect(self.other)) as copy:
             base.backup(copy)
 
-    def refused(self, status, told, *statements):
+    def refused(self, status, why, *statements):
         """The log is refused behind changes, and the store stays where it was."""
         if statements:
             changed(self.other, *statements)
         found = self.run_words("log", self.path, self.other)
         self.assertEqual((found[0], found[1]), (status, ""))
-        self.assertRegex(found[2], rf"\Anpss-registry: .*{told}.*\n\Z")
+        self.assertRegex(found[2], rf"\Anpss-registry: .*{why}.*\n\Z")
         self.assertEqual(self.run_words("log", self.path)[1], f"{self.log}\n")
 
     def test_the_same_log_by_another_name(self):

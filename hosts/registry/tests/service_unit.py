@@ -18,9 +18,9 @@ class Pauses(Case):
     def setUp(self):
         super().setUp()
         lines = UNIT.read_text(encoding="ascii").replace("\\\n", " ").splitlines()
-        told = [line for line in lines if line.startswith("ExecStartPre=/bin/sh")]
-        self.assertEqual(len(told), 1)
-        self.script = re.fullmatch(r"ExecStartPre=/bin/sh -c '(.*)'", told[0])[1].replace("$$", "$").replace("%%", "%")
+        commands = [line for line in lines if line.startswith("ExecStartPre=/bin/sh")]
+        self.assertEqual(len(commands), 1)
+        self.script = re.fullmatch(r"ExecStartPre=/bin/sh -c '(.*)'", commands[0])[1].replace("$$", "$").replace("%%", "%")
         programs = self.folder / "programs"
         programs.mkdir()
         sleep = programs / "sleep"
@@ -51,9 +51,9 @@ class Pauses(Case):
         self.assertEqual(self.started(2), [0, 1])
 
     def test_what_keeps_the_pauses(self):
-        told = UNIT.read_text(encoding="ascii").splitlines()
+        lines = UNIT.read_text(encoding="ascii").splitlines()
         for line in ("RuntimeDirectoryPreserve=restart", "StartLimitIntervalSec=0", "Restart=on-failure", "RestartSec=1"):
-            self.assertIn(line, told)
+            self.assertIn(line, lines)
 
     def test_a_damaged_file_keeps_nobody_from_starting(self):
         (self.folder / "pause").write_bytes(b"")

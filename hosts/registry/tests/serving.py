@@ -31,9 +31,9 @@ class Server:
         self.lines = []
         reading, writing = os.pipe()
         end = os.fstat(writing)
-        told = {"JOURNAL_STREAM": f"{end.st_dev}:{end.st_ino}"} if journal else {}
+        environment = {"JOURNAL_STREAM": f"{end.st_dev}:{end.st_ino}"} if journal else {}
         self.process = subprocess.Popen([sys.executable, "-m", "npss_registry", "serve", *map(str, words)], stdout=subprocess.DEVNULL,
-                                        stderr=writing, env={**os.environ, **told})
+                                        stderr=writing, env={**os.environ, **environment})
         os.close(writing)
         self._output = open(reading, encoding="utf-8", errors="replace")
         self._reading = threading.Thread(target=self._read, daemon=True)
@@ -43,7 +43,7 @@ class Server:
         for line in self._output:
             self.lines.append(line.rstrip("\n"))
 
-    def told(self, pattern, seconds=60, count=1):
+    def wait_for(self, pattern, seconds=60, count=1):
         """The first match of a pattern in a line, which is waited for."""
         end = time.monotonic() + seconds
         while time.monotonic() < end:
@@ -55,7 +55,7 @@ class Server:
 
     @property
     def port(self):
-        return int(self.told(r"at http://(?:[\d.]+|\[[\d:a-f]+\]|localhost):(\d+)/")[1])
+        return int(self.wait_for(r"at http://(?:[\d.]+|\[[\d:a-f]+\]|localhost):(\d+)/")[1])
 
     def end(self, seconds=10, number=signal.SIGTERM):
         """Tells it to end, and answers its status, which has to come within so many seconds."""
@@ -90,8 +90,8 @@ class ServingCase(Case):
         connection = http.client.HTTPConnection("127.0.0.1", server.port, timeout=seconds)
         with contextlib.closing(connection):
             self.answer = answer = answered(connection, path, body, token, headers)  # the last one, where threads ask
-            told = answer.read().decode()
-            return answer.status, json.loads(told) if answer.headers["Content-Type"] == "application/json" else told
+            text = answer.read().decode()
+            return answer.status, json.loads(text) if answer.headers["Content-Type"] == "application/json" else text
 
     def page(self, server, path, form=None, **headers):
         connection = http.client.HTTPConnection("127.0.0.1", server.port, timeout=30)
@@ -130,11 +130,11 @@ def claim(name, owner="x"):
 def read_all(made, seconds=20):
     """What comes over a connection until it is closed."""
     made.settimeout(seconds)
-    told = b""
+    received = b""
     with contextlib.suppress(ConnectionResetError):
         while piece := made.recv(65_536):
-            told += piece
-    return told
+            received += piece
+    return received
 
 
 def with_redis(test):

@@ -18,7 +18,7 @@ from trimming import TrimCase
 class Snapshots(TrimCase):
     """What is told of a snapshot is compared by each node."""
 
-    def told(self, place, **words):
+    def untrue_sum(self, place, **words):
         """A sum's record that tells what isn't so."""
         names = [Name(2, "a", "a", "x"), Name(4, "f", "f", "x"), Name(5, "i", "i", "x"), Name(7, "A", "A", "z")]
         count, made = sum_of_names(names)
@@ -30,7 +30,7 @@ class Snapshots(TrimCase):
         self.addCleanup(log.close)
         at, = log.append([(0, spelled(Snapshot(self.open_setup(path))))])
         for words in ({"names": 3}, {"sum": bytes(32)}):
-            place, = log.append([(0, spelled(self.told(at, **words)))])
+            place, = log.append([(0, spelled(self.untrue_sum(at, **words)))])
             node = Registry(path)
             with self.assertRaisesRegex(LogBroken, f"at the snapshot at place {at} isn't what the log tells") as caught:
                 node.catch_up()
@@ -39,7 +39,7 @@ class Snapshots(TrimCase):
             self.assertRegex("\n".join(self.judged(path)), f"at place {place}: what the log registers at the snapshot")
             changed(self.log, ("DELETE FROM record WHERE place = ?", place))
         # The past stands in no node's store, and in the judge's ledger.
-        place, = log.append([(0, spelled(self.told(at)))])
+        place, = log.append([(0, spelled(self.untrue_sum(at)))])
         node = Registry(path)
         node.catch_up()
         node.close()
@@ -54,7 +54,7 @@ class Snapshots(TrimCase):
         path, names = self.written()
         log = SqliteLog(self.log)
         self.addCleanup(log.close)
-        log.append([(0, spelled(self.told(3, sum=bytes(32))))])
+        log.append([(0, spelled(self.untrue_sum(3, sum=bytes(32))))])
         self.open(path).catch_up()
         self.assertEqual((self.names(path), self.judged(path)), (names, []))
 
@@ -73,7 +73,7 @@ class Snapshots(TrimCase):
         at = self.first()[0]
         with contextlib.closing(sqlite3.connect(self.log)) as base:
             (rows,), (end,) = base.execute("SELECT part FROM kept ORDER BY number").fetchall()
-        told, sums = json.loads(zlib.decompress(rows)), json.loads(end)
+        entries, sums = json.loads(zlib.decompress(rows)), json.loads(end)
         self.store("two")
 
         def part(rows, **words):
@@ -87,14 +87,14 @@ class Snapshots(TrimCase):
         wrong = {"is missing beside the log": [("DELETE FROM kept WHERE number = 1",)],
                  "missing beside": [("DELETE FROM kept",)],
                  "no part": [("UPDATE kept SET part = ? WHERE number = 0", b"x")],
-                 "its sum is another one": part(told[:-1]),
-                 "sum is another": part([[2, "a", None, "q"], *told[1:]]),
-                 "places don't rise": summed(told[::-1]),
-                 "don't rise": summed([*told, [at, "ii", None, "x"]]),
-                 "its key": summed([[2, "a", "A", "x"], *told[1:]]),
-                 "one too many": summed([*told[:-1], [7, "a", None, "x"]]),
-                 "is no part": part([[2, "a", None], *told[1:]]),
-                 "is no name": part([[2, "a", None, 7], *told[1:]])}
+                 "its sum is another one": part(entries[:-1]),
+                 "sum is another": part([[2, "a", None, "q"], *entries[1:]]),
+                 "places don't rise": summed(entries[::-1]),
+                 "don't rise": summed([*entries, [at, "ii", None, "x"]]),
+                 "its key": summed([[2, "a", "A", "x"], *entries[1:]]),
+                 "one too many": summed([*entries[:-1], [7, "a", None, "x"]]),
+                 "is no part": part([[2, "a", None], *entries[1:]]),
+                 "is no name": part([[2, "a", None, 7], *entries[1:]])}
         for why, changes in wrong.items():
             kept = self.folder / "kept"
             kept.unlink(missing_ok=True)

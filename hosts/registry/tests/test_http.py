@@ -24,20 +24,20 @@ class Requests(ServingCase):
         server = self.serve()
         self.assertEqual(self.ask(server, "/claim", claim("a\u0302"))[0], 201)
         self.assertEqual(self.ask(server, "/claim", claim("a\u0302"))[0], 200)
-        status, told = self.ask(server, "/claim", claim("\u00e2", "y"))
-        self.assertEqual((status, told["holder"]["name"]), (409, "a\u0302"))
-        status, told = self.ask(server, "/claim", claim("a" + YOUNG, "y"))
-        self.assertEqual((status, told["error"], told["code"], told["place"]), (422, "Unassigned", "1DFA", 1))
-        status, told = self.ask(server, "/find", {"name": "\u00e2"}, None)
-        self.assertEqual((status, [row["owner"] for row in told]), (200, ["x"]))
+        status, answer = self.ask(server, "/claim", claim("\u00e2", "y"))
+        self.assertEqual((status, answer["holder"]["name"]), (409, "a\u0302"))
+        status, answer = self.ask(server, "/claim", claim("a" + YOUNG, "y"))
+        self.assertEqual((status, answer["error"], answer["code"], answer["place"]), (422, "Unassigned", "1DFA", 1))
+        status, answer = self.ask(server, "/find", {"name": "\u00e2"}, None)
+        self.assertEqual((status, [row["owner"] for row in answer]), (200, ["x"]))
         self.assertEqual(self.ask(server, "/find", {"name": "A"}, None), (404, []))
         self.assertEqual(self.ask(server, "/same", {"left": "a\u0302", "right": "a\u0302"}, None), (200, {"same": True}))
         self.assertEqual(self.ask(server, "/same", {"left": "a\u0302", "right": "\u00e2"}, None), (404, {"same": None}))
         self.assertEqual(self.ask(server, "/forget", {"name": "a\u0302", "owner": "y"})[0], 409)
         self.assertEqual(self.ask(server, "/forget", {"name": "a\u0302", "owner": "x"})[0], 200)
         self.assertEqual(self.ask(server, "/forget", {"name": "a\u0302"})[0], 404)
-        status, told = self.ask(server, "/status", None, None)
-        self.assertEqual((status, told["shards"][0]["registered"], told["shards"][0]["behind"], told["claims"]), (200, 0, 0, True))
+        status, answer = self.ask(server, "/status", None, None)
+        self.assertEqual((status, answer["shards"][0]["registered"], answer["shards"][0]["behind"], answer["claims"]), (200, 0, 0, True))
 
     def test_bodies_that_are_none(self):
         server = self.serve()
@@ -46,8 +46,8 @@ class Requests(ServingCase):
                              (b'{"name":' + b"[" * 100_000, 400), (b"[" * 100_000 + b"]" * 100_000, 400)):
             self.assertEqual(self.ask(server, "/claim", body)[0], status, body[:40] if isinstance(body, bytes) else body)
         for path in ("/find", "/same"):
-            status, told = self.ask(server, path, b'{"a":' * 10_000 + b"1" + b"}" * 10_000, None)
-            self.assertEqual((status, told["error"]), (400, "Bad Request"))
+            status, answer = self.ask(server, path, b'{"a":' * 10_000 + b"1" + b"}" * 10_000, None)
+            self.assertEqual((status, answer["error"]), (400, "Bad Request"))
         self.assertEqual(self.ask(server, "/find", None, None)[0], 405)
         self.assertEqual(self.ask(server, "/none", None, None)[0], 404)
         self.assertEqual(self.ask(server, "/claim", claim("A"))[0], 201)
@@ -85,10 +85,10 @@ class Requests(ServingCase):
     def test_why_is_bounded_and_keeps_nobody_waiting(self):
         server = self.serve()
         begun = time.monotonic()
-        told = self.page(server, "/why", {"left": "a" * 30_000, "right": "A" * 30_000})
+        why_page = self.page(server, "/why", {"left": "a" * 30_000, "right": "A" * 30_000})
         self.assertLess(time.monotonic() - begun, 3)
-        self.assertLess(len(told), 500_000)
-        self.assertIn("its first 1000 code points of 30000", told)
+        self.assertLess(len(why_page), 500_000)
+        self.assertIn("its first 1000 code points of 30000", why_page)
         slowest = []
 
         def asked():
@@ -141,13 +141,13 @@ class Strangers(ServingCase):
         begun = time.monotonic()
         for one, half in zip(made, halves):
             one.sendall(half)
-        told = [read_all(one) for one in made]
+        answers = [read_all(one) for one in made]
         self.assertLess(time.monotonic() - begun, 14)
         for number in (0, 1, 2, 3):
-            self.assertEqual(told[number][:12], b"HTTP/1.1 408", halves[number])
+            self.assertEqual(answers[number][:12], b"HTTP/1.1 408", halves[number])
         for number in (4, 5):
-            self.assertEqual(told[number][:12], b"HTTP/1.1 200", halves[number])
-        self.assertEqual(told[6][:12], b"HTTP/1.1 401")
+            self.assertEqual(answers[number][:12], b"HTTP/1.1 200", halves[number])
+        self.assertEqual(answers[6][:12], b"HTTP/1.1 401")
 
     def test_a_body_that_trickles_is_closed(self):
         server = self.serve()
@@ -270,8 +270,8 @@ class Addresses(ServingCase):
         made = self.connect(server)
         for path, body in 50 * [(b"/find", b'{"name": "A"}'), (b"/status", b"")]:
             made.sendall(b"%s %s HTTP/1.1\r\nHost: localhost\r\nContent-Length: %d\r\n\r\n%s" % (b"POST" if body else b"GET", path, len(body), body))
-            head, behind, told = made.recv(65536).partition(b"\r\n\r\n")
-            self.assertEqual((behind, len(told)), (b"\r\n\r\n", int(re.search(rb"content-length: (\d+)", head)[1])), path)
+            head, behind, content = made.recv(65536).partition(b"\r\n\r\n")
+            self.assertEqual((behind, len(content)), (b"\r\n\r\n", int(re.search(rb"content-length: (\d+)", head)[1])), path)
 
     def test_each_address_of_a_name(self):
         server = Server(self.store("store"), "--port", 0, "--host", "localhost")
@@ -286,7 +286,7 @@ class Addresses(ServingCase):
     def test_an_address_of_ipv6(self):
         server = Server(self.store("store"), "--port", 0, "--host", "::1")
         self.addCleanup(server.kill)
-        server.told(r"at http://\[::1\]:\d+/")
+        server.wait_for(r"at http://\[::1\]:\d+/")
         for host, status in ((f"[::1]:{server.port}", 200), ("[::2]", 421)):
             with socket.create_connection(("::1", server.port)) as made:
                 made.sendall(f"GET /health HTTP/1.1\r\nHost: {host}\r\nConnection: close\r\n\r\n".encode())
@@ -320,19 +320,19 @@ class Pages(ServingCase):
         found = self.page(server, "/search", {"name": "A"})
         self.assertIn("<bdi>A</bdi>", found)
         self.assertRegex(found, r"<bdi>99<span[^>]*>\[0009\]</span><span[^>]*>\[202E\]</span>admin<span[^>]*>\[000A\]</span><span[^>]*>\[001B\]</span></bdi>")
-        told = self.page(server, "/why", {"left": "a", "right": "A"})
-        self.assertRegex(told, r"<h2>One: <bdi>a</bdi></h2>")
-        self.assertRegex(told, r"Key: <bdi>a</bdi>")
-        self.assertRegex(told, r"\.code \{[^}]*unicode-bidi: isolate; direction: ltr")
-        for page in (found, told, self.page(server, "/")):
+        why_page = self.page(server, "/why", {"left": "a", "right": "A"})
+        self.assertRegex(why_page, r"<h2>One: <bdi>a</bdi></h2>")
+        self.assertRegex(why_page, r"Key: <bdi>a</bdi>")
+        self.assertRegex(why_page, r"\.code \{[^}]*unicode-bidi: isolate; direction: ltr")
+        for page in (found, why_page, self.page(server, "/")):
             self.assertIn('<meta name="viewport"', page)
         self.assertNotIn("Search and status", self.page(server, "/"))
 
     def test_parked_names_have_their_code_points(self):
         shards = [ShardState(0, 3, 3, 0, 1, 1)]
-        told = pages.home(Overview("ab", "nfkc", False, 65536, 1024, 5, 1, True, None, None, 2.0, shards, [(0, "A\u0639\U00016d67")]))
-        self.assertIn('<td><bdi>A\u0639\U00016d67</bdi></td><td><span class="code">0041 0639 16D67</span></td>', told)
-        self.assertIn("The log told its last places 2 s ago", told)
+        home_page = pages.home(Overview("ab", "nfkc", False, 65536, 1024, 5, 1, True, None, None, 2.0, shards, [(0, "A\u0639\U00016d67")]))
+        self.assertIn('<td><bdi>A\u0639\U00016d67</bdi></td><td><span class="code">0041 0639 16D67</span></td>', home_page)
+        self.assertIn("The log told its last places 2 s ago", home_page)
 
     @unittest.skipUnless(shutil.which("chromium"), "chromium is not here")
     def test_a_page_in_a_browser(self):

@@ -72,11 +72,11 @@ class Lengths(Case):
     def test_a_log_that_tells_no_length_has_names_as_long_as_a_node_takes(self):
         path = self.store("store")
         setup = self.open(path).setup
-        told = spelled(setup).replace(b',"most_bytes":65536', b"")
-        self.assertNotIn(b"most_bytes", told)
-        self.assertNotEqual(told, spelled(setup))
+        body = spelled(setup).replace(b',"most_bytes":65536', b"")
+        self.assertNotIn(b"most_bytes", body)
+        self.assertNotEqual(body, spelled(setup))
         with contextlib.closing(sqlite3.connect(self.log)) as base, base:
-            base.execute("UPDATE record SET body = ? WHERE place = 1", (told,))
+            base.execute("UPDATE record SET body = ? WHERE place = 1", (body,))
         other = self.open(self.store("other", setup=replace(setup, name="")))
         self.assertEqual(other.claim("a" * LONGEST, "x").what, "registered")
 
@@ -88,8 +88,8 @@ class Lengths(Case):
         case.tokens.write_text(TOKEN, encoding="ascii")
         self.addCleanup(case.doCleanups)
         server = case.serve(made)
-        status, told = case.ask(server, "/claim", claim("a" * 1025))
-        self.assertEqual((status, told["error"]), (422, "NameTooLong"))
+        status, answer = case.ask(server, "/claim", claim("a" * 1025))
+        self.assertEqual((status, answer["error"]), (422, "NameTooLong"))
         self.assertEqual(case.ask(server, "/status", None)[1]["most_bytes"], 1024)
 
 
@@ -156,8 +156,8 @@ class Large(ServingCase):
     @staticmethod
     def most_memory(server):
         """The most memory that a server had, in MiB."""
-        told = Path(f"/proc/{server.process.pid}/status").read_text(encoding="ascii")
-        return int(re.search(r"VmHWM:\s+(\d+) kB", told)[1]) / 1024
+        state = Path(f"/proc/{server.process.pid}/status").read_text(encoding="ascii")
+        return int(re.search(r"VmHWM:\s+(\d+) kB", state)[1]) / 1024
 
     def test_claims_that_come_at_once_are_worked_on_in_turn(self):
         server = self.serve()

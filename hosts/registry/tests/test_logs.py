@@ -68,10 +68,10 @@ class Reading(ServingCase):
     def test_a_node_that_is_behind_says_so(self):
         server = self.serve()
         self.assertEqual(self.ask(server, "/claim", claim("A"))[0], 201)
-        told = self.ask(server, "/status", None, None)[1]
-        self.assertEqual((told["shards"][0]["place"], told["shards"][0]["last"], told["shards"][0]["behind"]), (2, 2, 0))
-        self.assertLess(told["log"]["age"], 3)
-        self.assertIsNone(told["log"]["away"])
+        answer = self.ask(server, "/status", None, None)[1]
+        self.assertEqual((answer["shards"][0]["place"], answer["shards"][0]["last"], answer["shards"][0]["behind"]), (2, 2, 0))
+        self.assertLess(answer["log"]["age"], 3)
+        self.assertIsNone(answer["log"]["away"])
 
     def test_what_is_parked_is_told(self):
         server, newer = self.serve(), self.serve(self.store("newer", NEW))
@@ -86,7 +86,7 @@ class Watching(ServingCase):
 
     def test_a_fault_of_its_own_does_not_end_it(self):
         self.store("store")
-        looks, told = [ValueError("a fault"), LogAway("away")], []
+        looks, places = [ValueError("a fault"), LogAway("away")], []
 
         def opened(name, how):
             if looks:
@@ -94,12 +94,12 @@ class Watching(ServingCase):
             return open_log(name, how)
 
         health = Health()
-        watch = Watch(self.log, 1, health, told.append)
+        watch = Watch(self.log, 1, health, places.append)
         with patch("npss_registry.watch.open_log", opened), self.assertLogs("npss_registry", "INFO") as logs:
             watch.start()
-            self.until(lambda: told)
+            self.until(lambda: places)
             watch.stop()
-        self.assertEqual((told[0], health.log.why), ([1], None))
+        self.assertEqual((places[0], health.log.why), ([1], None))
         self.assertRegex("\n".join(logs.output), "(?s)the log is away: ValueError: a fault.*the log is back")
 
 
@@ -132,21 +132,21 @@ class Logs(ServingCase):
             self.assertLess(time.monotonic() - asked, 1, path)
         for thread in claiming:
             thread.join()
-        self.assertEqual([(status, told["why"].rpartition("; ")[2]) for status, told in answers], [(503, "the outcome is unknown, ask again")] * 4)
+        self.assertEqual([(status, answer["why"].rpartition("; ")[2]) for status, answer in answers], [(503, "the outcome is unknown, ask again")] * 4)
         self.assertLess(time.monotonic() - begun, 8)
         # From now on it is known, and nobody waits.
         self.until(lambda: self.ask(server, "/status", None, None)[1]["log"]["away"], 8)
         asked = time.monotonic()
-        status, told = self.ask(server, "/claim", claim("i"))
-        self.assertEqual((status, told["error"]), (503, "NotTried"))
+        status, answer = self.ask(server, "/claim", claim("i"))
+        self.assertEqual((status, answer["error"]), (503, "NotTried"))
         self.assertLess(time.monotonic() - asked, 1)
-        told = self.ask(server, "/status", None, None)[1]
-        self.assertIsNone(told["shards"][0]["behind"])
-        self.assertGreater(told["log"]["age"], 2)
+        answer = self.ask(server, "/status", None, None)[1]
+        self.assertIsNone(answer["shards"][0]["behind"])
+        self.assertGreater(answer["log"]["age"], 2)
         redis.process.send_signal(signal.SIGCONT)
         self.until(lambda: self.ask(server, "/claim", claim("i"))[0] in (200, 201), 15)
-        server.told("the log is away: ")
-        server.told("the log is back after ")
+        server.wait_for("the log is away: ")
+        server.wait_for("the log is back after ")
 
     @with_redis
     def test_a_server_starts_while_its_log_is_away(self):
@@ -159,15 +159,15 @@ class Logs(ServingCase):
         server = self.serve(path)
         self.assertEqual(self.ask(server, "/find", {"name": "A"}, None)[0], 200)
         self.assertEqual(self.ask(server, "/claim", claim("a"))[0], 503)
-        told = self.ask(server, "/status", None, None)[1]
-        self.assertEqual((told["claims"], told["shards"][0]["place"], told["shards"][0]["registered"], told["shards"][0]["last"]), (False, 2, 1, None))
+        answer = self.ask(server, "/status", None, None)[1]
+        self.assertEqual((answer["claims"], answer["shards"][0]["place"], answer["shards"][0]["registered"], answer["shards"][0]["last"]), (False, 2, 1, None))
         self.assertEqual(self.ask(server, "/health", None, None), (200, {"finds": True, "claims": False, "log": "away", "store": "written"}))
         self.assertIn("The log is away", self.page(server, "/"))
         self.assertIn("npss_registry_log_up 0.0", self.ask(server, "/metrics", None, None)[1])
-        server.told("warning: the log is away: ")
+        server.wait_for("warning: the log is away: ")
         redis.start()
         self.until(lambda: self.ask(server, "/claim", claim("a"))[0] in (200, 201), 15)
-        server.told("the log is back after ")
+        server.wait_for("the log is back after ")
         self.assertEqual(server.end(), 0)
 
     def test_a_server_starts_while_its_log_is_not_there(self):
@@ -180,10 +180,10 @@ class Logs(ServingCase):
         self.assertEqual(self.ask(server, "/find", {"name": "A"}, None)[0], 200)
         self.assertEqual(self.ask(server, "/claim", claim("a"))[1]["error"], "NotTried")
         self.assertEqual(self.ask(server, "/health", None, None)[1]["log"], "away")
-        server.told("the log is away: no log at")
+        server.wait_for("the log is away: no log at")
         os.rename(f"{self.log}.away", self.log)
         self.until(lambda: self.ask(server, "/claim", claim("a"))[0] in (200, 201), 10)
-        server.told("the log is back after ")
+        server.wait_for("the log is back after ")
 
     def test_a_log_that_is_held_keeps_claims_alone(self):
         server = self.serve()
@@ -206,8 +206,8 @@ class Logs(ServingCase):
             base.execute("ROLLBACK")
         self.assertEqual(self.ask(server, "/claim", claim("a"))[0], 201)
         self.assertTrue(self.ask(server, "/health", None, None)[1]["claims"])
-        server.told("warning: the log takes no records: .*locked")
-        server.told("the log takes records again after ")
+        server.wait_for("warning: the log takes no records: .*locked")
+        server.wait_for("the log takes records again after ")
 
     def test_a_server_stops_where_the_log_is_broken(self):
         server = self.serve()
@@ -216,7 +216,7 @@ class Logs(ServingCase):
         held.sendall(b"POST /find HTTP/1.1\r\nHost: localhost\r\nContent-Length: 10\r\n\r\n{")
         SqliteLog(self.log).append([(0, b"no record")])
         self.assertEqual(server.process.wait(timeout=10), 4)
-        self.assertRegex(server.told("critical: the node has stopped")[0] + server.lines[-1], "at place 2: ")
+        self.assertRegex(server.wait_for("critical: the node has stopped")[0] + server.lines[-1], "at place 2: ")
         self.assertNotIn("Traceback", "\n".join(server.lines))
 
     def test_a_log_that_lost_its_tail_stops_the_server(self):
@@ -225,7 +225,7 @@ class Logs(ServingCase):
         with contextlib.closing(sqlite3.connect(self.log)) as base, base:
             base.execute("DELETE FROM record WHERE place = 2")
         self.assertEqual(server.process.wait(timeout=10), 4)
-        server.told("at place 2: the record that this node read last is missing")
+        server.wait_for("at place 2: the record that this node read last is missing")
 
 
     def test_a_log_is_trimmed_while_it_is_served(self):
@@ -245,7 +245,7 @@ class Logs(ServingCase):
         self.assertEqual(trim([other.store.path], PROGRAM, 30).findings, [])
         server.process.send_signal(signal.SIGCONT)
         self.assertEqual(server.process.wait(timeout=15), 4)
-        server.told("critical: the node has stopped: the log at place .*trimmed.*npss-registry init")
+        server.wait_for("critical: the node has stopped: the log at place .*trimmed.*npss-registry init")
 
 
 class Stores(ServingCase):
@@ -257,12 +257,12 @@ class Stores(ServingCase):
         self.assertEqual(self.ask(server, "/claim", claim("A"))[0], 201)
         with contextlib.closing(sqlite3.connect(path, isolation_level=None)) as base:
             base.execute("BEGIN IMMEDIATE")
-            status, told = self.ask(server, "/claim", claim("a"))
-            self.assertEqual((status, told["error"]), (503, "StoreAway"))
-            self.assertRegex(told["why"], "locked; the outcome is unknown, ask again")
-            status, told = self.ask(server, "/claim", claim("i"))
-            self.assertEqual((status, told["error"]), (503, "NotTried"))
-            self.assertRegex(told["why"], "locked; nothing was written")
+            status, answer = self.ask(server, "/claim", claim("a"))
+            self.assertEqual((status, answer["error"]), (503, "StoreAway"))
+            self.assertRegex(answer["why"], "locked; the outcome is unknown, ask again")
+            status, answer = self.ask(server, "/claim", claim("i"))
+            self.assertEqual((status, answer["error"]), (503, "NotTried"))
+            self.assertRegex(answer["why"], "locked; nothing was written")
             self.assertEqual(self.ask(server, "/find", {"name": "A"}, None)[0], 200)
             self.assertEqual(self.ask(server, "/health", None, None)[1]["store"], "away")
             # What stands in the log, and not in the store, is what the node is behind by.
@@ -271,8 +271,8 @@ class Stores(ServingCase):
             self.assertIn('npss_registry_behind{shard="0"} 1.0', self.ask(server, "/metrics", None, None)[1])
             base.execute("ROLLBACK")
         self.until(lambda: self.ask(server, "/claim", claim("a"))[0] in (200, 201), 15)
-        server.told("the store can't be worked on: ")
-        server.told("the store can be worked on again after ")
+        server.wait_for("the store can't be worked on: ")
+        server.wait_for("the store can be worked on again after ")
         self.assertEqual(self.ask(server, "/find", {"name": "a"}, None)[1][0]["owner"], "x")
         self.assertNotIn("Traceback", "\n".join(server.lines))
         self.assertEqual(server.end(), 0)
@@ -286,14 +286,14 @@ class Stores(ServingCase):
         """Claims are refused while the disk is full, names are found, and the node goes on once there is room."""
         self.assertEqual(self.ask(server, "/claim", claim("A"))[0], 201)
         self.limit(server, 4096)
-        status, told = self.ask(server, "/claim", claim("a"))
-        self.assertEqual((status, told["error"]), (503, error))
-        self.assertRegex(told["why"], "the outcome is unknown, ask again")
+        status, answer = self.ask(server, "/claim", claim("a"))
+        self.assertEqual((status, answer["error"]), (503, error))
+        self.assertRegex(answer["why"], "the outcome is unknown, ask again")
         self.assertEqual(self.ask(server, "/find", {"name": "A"}, None)[0], 200)
         self.assertFalse(self.ask(server, "/health", None, None)[1]["claims"])
         self.limit(server, None)
         self.until(lambda: self.ask(server, "/claim", claim("a"))[0] in (200, 201))
-        server.told(line)
+        server.wait_for(line)
         self.until(lambda: self.ask(server, "/health", None, None)[1]["claims"])
         self.assertEqual(server.end(), 0)
         self.assertNotIn("Traceback", "\n".join(server.lines))

@@ -24,7 +24,7 @@ class Ends(ServingCase):
         server = self.serve()
         self.assertEqual(self.ask(server, "/claim", claim("A"))[0], 201)
         self.assertEqual(server.end(3), 0)
-        server.told("has ended")
+        server.wait_for("has ended")
         with Path(self.folder / "store-lock").open(encoding="ascii") as lock:
             self.assertTrue(lock.read())
         registry = Registry(str(self.folder / "store"))
@@ -89,21 +89,21 @@ class Tokens(ServingCase):
         self.assertEqual(self.ask(server, "/claim", claim("A"), TOKEN)[0], 201)
         self.tokens.write_text("new a-token-that-came-later\n", encoding="ascii")
         server.process.send_signal(signal.SIGHUP)
-        server.told("read 1 tokens: new")
+        server.wait_for("read 1 tokens: new")
         self.assertEqual(self.ask(server, "/claim", claim("A"), TOKEN)[0], 401)
         self.assertEqual(self.ask(server, "/claim", claim("A"), "a-token-that-came-later")[0], 200)
         for odd in ("", "short\n", "\u00e2" * 20, "a b c d e\n"):
             count = len([line for line in server.lines if "the tokens stay" in line])
             self.tokens.write_text(odd, encoding="utf-8")
             server.process.send_signal(signal.SIGHUP)
-            server.told("error: the tokens stay as they were: ", count=count + 1)
+            server.wait_for("error: the tokens stay as they were: ", count=count + 1)
             self.assertEqual(self.ask(server, "/claim", claim("A"), "a-token-that-came-later")[0], 200)
         self.tokens.unlink()
         server.process.send_signal(signal.SIGHUP)
-        server.told("the tokens stay as they were: .*No such file")
+        server.wait_for("the tokens stay as they were: .*No such file")
         os.mkfifo(self.tokens)
         server.process.send_signal(signal.SIGHUP)
-        server.told("the tokens stay as they were: .*nothing came")
+        server.wait_for("the tokens stay as they were: .*nothing came")
         self.assertEqual(self.ask(server, "/claim", claim("A"), "a-token-that-came-later", 5)[0], 200)
         self.assertNotIn(TOKEN, "\n".join(server.lines))
 
@@ -125,19 +125,19 @@ class Telling(ServingCase):
 
     def test_lines_have_levels_and_no_names(self):
         server = self.serve(None, journal=True)
-        server.told("at http://")
+        server.wait_for("at http://")
         self.assertEqual(self.ask(server, "/claim", claim("aAaAaAi", "somebody"))[0], 201)
         self.ask(server, "/claim", claim(YOUNG))
         self.ask(server, "/claim", b"{")
         self.ask(server, "/claim", claim("A"), "wrong")
         self.assertEqual(server.end(), 0)
-        server.told("^<6>refused: 1 Bad Request, 1 Unassigned, 1 Unauthorized$")
+        server.wait_for("^<6>refused: 1 Bad Request, 1 Unassigned, 1 Unauthorized$")
         self.assertTrue(all(line.startswith("<") for line in server.lines), server.lines)
-        told = "\n".join(server.lines)
+        journal = "\n".join(server.lines)
         for secret in ("aAaAaAi", "somebody", YOUNG, TOKEN):
-            self.assertNotIn(secret, told)
+            self.assertNotIn(secret, journal)
         for words in ("serves ", "version 1 of Unicode", "has ended", "1 Bad Request", "1 Unauthorized"):
-            self.assertIn(words, told)
+            self.assertIn(words, journal)
 
     def test_who_reads_a_line_finds_it_so(self):
         trouble = Trouble("the log is away", "the log is back")
@@ -160,7 +160,7 @@ class Telling(ServingCase):
         Registry(path).close()  # as `status` does, of which nobody is told
         line = f"^<6>upgraded from version 1 of Unicode in this store, which assigns {before} code points, to version 2, which assigns {after}$"
         server = self.serve(path, journal=True)
-        server.told(line)
+        server.wait_for(line)
         self.assertEqual(server.end(), 0)
         server = self.serve(path, journal=True)
         self.assertTrue(server.port)
@@ -172,7 +172,7 @@ class Telling(ServingCase):
             server = Server(self.store("store"), "--port", taken.getsockname()[1], journal=True)
             self.addCleanup(server.kill)
             self.assertEqual(server.process.wait(30), 5)
-        server.told("^<3>127.0.0.1 port [0-9]+: Address already in use$")
+        server.wait_for("^<3>127.0.0.1 port [0-9]+: Address already in use$")
 
     def test_metrics(self):
         from prometheus_client.parser import text_string_to_metric_families
@@ -184,10 +184,10 @@ class Telling(ServingCase):
         self.ask(server, "/forget", {"name": "A"})
         self.ask(server, "/forget", {"name": "A"})
         self.ask(server, "/none/" + "x" * 100, None)
-        status, told = self.ask(server, "/metrics", None, None)
+        status, answer = self.ask(server, "/metrics", None, None)
         self.assertEqual(status, 200)
         self.assertTrue(self.answer.headers["Content-Type"].startswith("text/plain; version=0.0.4"))
-        found = {(sample.name, *sorted(sample.labels.items())): sample.value for family in text_string_to_metric_families(told) for sample in family.samples}
+        found = {(sample.name, *sorted(sample.labels.items())): sample.value for family in text_string_to_metric_families(answer) for sample in family.samples}
         outcomes = "npss_registry_outcomes_total"
 
         def counted(request, outcome, token="line-1"):
@@ -202,7 +202,7 @@ class Telling(ServingCase):
             self.assertEqual(found[f"npss_registry_{name}", ("shard", "0")], value, name)
         self.assertEqual((found["npss_registry_log_up",], found["npss_registry_versions",], found["npss_registry_claims_up",]), (1, 1, 1))
         self.assertLess(found["npss_registry_log_age_seconds",], 5)
-        self.assertNotIn('"A"', told)
+        self.assertNotIn('"A"', answer)
 
     def test_health(self):
         server = self.serve()

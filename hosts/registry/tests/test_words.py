@@ -173,8 +173,8 @@ class Statuses(WordsCase):
                                    stderr=subprocess.PIPE, preexec_fn=lambda: signal.signal(signal.SIGINT, signal.default_int_handler))
         with (self.folder / "data").open("wb"):  # which it reads from now on
             process.send_signal(signal.SIGINT)
-            _, told = process.communicate(timeout=10)
-        self.assertEqual((process.returncode, told), (130, b"npss-registry: interrupted\n"))
+            _, stderr = process.communicate(timeout=10)
+        self.assertEqual((process.returncode, stderr), (130, b"npss-registry: interrupted\n"))
 
 
 class Listings(WordsCase):
@@ -203,8 +203,8 @@ class Serve(WordsCase):
         odd = {"empty": b"", "blank": b"\n# no token\n\n", "short": b"short\n", "bytes": b"\xff" * 20, "signs": "\u00e2".encode() * 20, "words": b"a b c d e f\n",
                "twice": b"one " + TOKEN.encode() + b"\ntwo " + TOKEN.encode(), "names": b"one token-of-one-of-them\none token-of-another-one", "large": b"x" * 100_000,
                "control": b"sixteen\x01characters"}
-        for name, told in odd.items():
-            (self.folder / name).write_bytes(told)
+        for name, content in odd.items():
+            (self.folder / name).write_bytes(content)
             self.sees(AWAY, f"{name}: ", "serve", store, "--port", "0", "--token-file", name)
         os.mkfifo(self.folder / "pipe")
         self.sees(AWAY, "pipe: nothing came", "serve", store, "--port", "0", "--token-file", "pipe")

@@ -260,8 +260,8 @@ class Trimming(TrimCase):
         self.assertEqual(self.judged(path, node.store.path), [])
 
     def test_earlier_versions_refuse_a_trimmed_log(self):
-        told = json.loads(spelled(Snapshot(self.setup)))
-        self.assertEqual((told["setup"], read(1, spelled(Snapshot(self.setup)))), (3, Snapshot(self.setup)))
+        fields = json.loads(spelled(Snapshot(self.setup)))
+        self.assertEqual((fields["setup"], read(1, spelled(Snapshot(self.setup)))), (3, Snapshot(self.setup)))
 
     def test_a_backup_from_before_is_told(self):
         path, _ = self.written()

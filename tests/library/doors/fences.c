@@ -97,17 +97,17 @@ static int ended(npss_answer a, uint32_t status, uint64_t length) {
 /* Each call of a node, with its texts and rooms at fences. */
 static void check_node(npss_handle *old, npss_handle *new, int at_end) {
     static const char message[] = "C\0\0\0\5" NAME "\0\0\0\3" KEY;
-    const size_t name = sizeof NAME - 1, key = sizeof KEY - 1, told = sizeof message - 1, image = 13 + 4 + name + 1 + 4 + key;
+    const size_t name = sizeof NAME - 1, key = sizeof KEY - 1, whole = sizeof message - 1, image = 13 + 4 + name + 1 + 4 + key;
     const uint8_t *text = fenced_text(NAME, name, at_end), *other = fenced_text(KEY, key, at_end);
     npss_node node = {0}, away = {0};
     CHECK("a node is new", npss_node_new(&node, old, NPSS_NFC, 3).status == NPSS_DONE);
     CHECK("a string at a fence", npss_node_accept(&node, text, name).status == NPSS_DONE);
     CHECK("no string at a fence", npss_node_accept(&node, fenced(0, at_end), 0).status == NPSS_DONE && npss_node_forget(&node, text, 0).status == NPSS_DONE);
-    uint8_t *room = fenced(told, at_end);
-    CHECK("a message into a room of its length", ended(npss_node_message(&node, text, name, room, told), NPSS_DONE, told) && !memcmp(room, message, told));
-    CHECK("into one that lacks a byte", ended(npss_node_message(&node, text, name, fenced(told - 1, at_end), told - 1), NPSS_NO_ROOM, told));
-    CHECK("a message at a fence", npss_node_new(&away, new, NPSS_NFC, 3).status == NPSS_DONE && npss_node_take(&away, room, told).status == NPSS_DONE);
-    for (size_t length = 0; length < told; length++)
+    uint8_t *room = fenced(whole, at_end);
+    CHECK("a message into a room of its length", ended(npss_node_message(&node, text, name, room, whole), NPSS_DONE, whole) && !memcmp(room, message, whole));
+    CHECK("into one that lacks a byte", ended(npss_node_message(&node, text, name, fenced(whole - 1, at_end), whole - 1), NPSS_NO_ROOM, whole));
+    CHECK("a message at a fence", npss_node_new(&away, new, NPSS_NFC, 3).status == NPSS_DONE && npss_node_take(&away, room, whole).status == NPSS_DONE);
+    for (size_t length = 0; length < whole; length++)
         CHECK("a message that is cut", npss_node_take(&away, fenced_text(message, length, at_end), length).status == NPSS_MALFORMED);
     room = fenced(key, at_end);
     CHECK("a key", ended(npss_node_key(&node, text, name, room, key), NPSS_DONE, key) && !memcmp(room, KEY, key));
@@ -273,7 +273,7 @@ static void check_without_memory(npss_handle *old, npss_handle *new) {
     static const char message[] = "C\0\0\0\5" NAME "\0\0\0\3" KEY, other[] = "D\0\0\0\1a\0\0\0\1a";
     static const char later[] = "C\0\0\0\4" UNASSIGNED "\0\0\0\4" UNASSIGNED;
     static const char ascii[] = "aAfiafAfiaAfaifAfiAaaffiAAafia";
-    const uint8_t *name = (const uint8_t *)NAME, *text = (const uint8_t *)ascii, *told = (const uint8_t *)message;
+    const uint8_t *name = (const uint8_t *)NAME, *text = (const uint8_t *)ascii, *sent = (const uint8_t *)message;
     const size_t length = sizeof NAME - 1, whole = sizeof message - 1, letters = sizeof ascii - 1;
     uint8_t room[256];
     npss_node node = {0};
@@ -282,10 +282,10 @@ static void check_without_memory(npss_handle *old, npss_handle *new) {
     left = 0;
     CHECK("the next one without memory", ended(npss_key(old, NPSS_NFC, name, length, room, sizeof room), NPSS_DONE, sizeof KEY - 1));
     CHECK("a text of ASCII without memory", ended(npss_key(old, NPSS_NFC, text, letters, room, sizeof room), NPSS_DONE, letters));
-    CHECK("a cut message without memory", npss_node_take(&node, told, whole - 1).status == NPSS_MALFORMED);
+    CHECK("a cut message without memory", npss_node_take(&node, sent, whole - 1).status == NPSS_MALFORMED);
     CHECK("a message of another form without memory", npss_node_take(&node, (const uint8_t *)other, sizeof other - 1).status == NPSS_OTHER_FORM);
     CHECK("a message of a later version without memory", npss_node_take(&node, (const uint8_t *)later, sizeof later - 1).status == NPSS_UNASSIGNED);
-    CHECK("a known message without memory", npss_node_take(&node, told, whole).status == NPSS_KNOWN);
+    CHECK("a known message without memory", npss_node_take(&node, sent, whole).status == NPSS_KNOWN);
     CHECK("a known string without memory", npss_node_accept(&node, name, length).status == NPSS_KNOWN);
     CHECK("an unassigned string without memory", npss_node_accept(&node, (const uint8_t *)UNASSIGNED, 4).status == NPSS_UNASSIGNED);
     CHECK("an upgrade without memory", npss_node_upgrade(&node, new).status == NPSS_DONE);

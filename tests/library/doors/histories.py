@@ -19,7 +19,7 @@ def codes_of(text):
     return " ".join(f"{ord(character):04X}" for character in text) or "-"
 
 
-def told(error):
+def refusal_of(error):
     """A refusal as a report has it."""
     if isinstance(error, Unassigned):
         return f"unassigned {error.code:04X} at byte {error.place}"
@@ -48,7 +48,7 @@ class World:
         try:
             return getattr(self, name)(int(number), *words)
         except Refused as error:
-            return told(error)
+            return refusal_of(error)
 
     def accept(self, number, *codes):
         string = text_of(codes)

@@ -57,8 +57,8 @@ static npss_answer restart(int n, size_t place) {
     return a;
 }
 
-static void event(const char *told, npss_answer a, uint32_t status, const char *reply) {
-    CHECK(told, a.status == status);
+static void event(const char *what, npss_answer a, uint32_t status, const char *reply) {
+    CHECK(what, a.status == status);
     printf("%zu %s\n", event_count++, reply);
 }
 

@@ -15,7 +15,7 @@ struct Version {
 };
 
 /* So many bytes of standard input, if it has them. */
-static bool take(void *to, size_t length) {
+static bool read_bytes(void *to, size_t length) {
     return std::fread(to, 1, length, stdin) == length;
 }
 
@@ -46,9 +46,9 @@ static void tell(const Version &version, const std::string &folding, const std::
 int main(int count, char **words) {
     std::vector<Version> versions;
     for (int at = 1; at + 1 < count; at += 2) versions.push_back({file_named(words[at]), file_named(words[at + 1])});
-    for (uint32_t head[3]; take(head, sizeof head) && head[0] < versions.size();) {
+    for (uint32_t head[3]; read_bytes(head, sizeof head) && head[0] < versions.size();) {
         std::string folding(head[1], 0), text(head[2], 0);
-        if (!take(&folding[0], folding.size()) || !take(&text[0], text.size())) return 2;
+        if (!read_bytes(&folding[0], folding.size()) || !read_bytes(&text[0], text.size())) return 2;
         tell(versions[head[0]], folding, text);
     }
     return 0;

@@ -38,9 +38,9 @@ class Version(NamedTuple):
 
 def version_of(data, exclusions, foldings):
     """The version of two files, with these folding files."""
-    rows, told = data_files.version_of(data.read_bytes(), exclusions.read_bytes())
+    rows, fault = data_files.version_of(data.read_bytes(), exclusions.read_bytes())
     if rows is None:
-        raise ValueError(told)
+        raise ValueError(fault)
     assigned = [code for row in rows.rows for code in range(row.first, min(row.last, row.first + 9) + 1) if not data_files.is_surrogate(code)]
     text = "".join(map(chr, assigned[:500] + assigned[-20:]))
     return Version((data, exclusions), folding_files.Decompositions(rows), folding_files.lowercases_of(data.read_bytes()),
@@ -132,7 +132,7 @@ def answer_of(version, folding):
     return (FOLDINGS, CONDITION_FAULTS.index(name), int(code, 16), 0, 0), None
 
 
-def told_of(program, number, version, folding):
+def answered_by(program, number, version, folding):
     """What the program tells of a folding file beside a version; nothing where it died."""
     text = version.text.encode()
     try:
@@ -162,7 +162,7 @@ def judge_until(path, published, seconds, seed):
     with subprocess.Popen(list(map(str, words)), stdin=subprocess.PIPE, stdout=subprocess.PIPE) as program:
         while time.monotonic() < end:
             number, folding = drawn(chance, versions)
-            got, want = told_of(program, number, versions[number], folding), answer_of(versions[number], folding)
+            got, want = answered_by(program, number, versions[number], folding), answer_of(versions[number], folding)
             if got != want:
                 program.kill()
                 return count, (number, folding, got, want)

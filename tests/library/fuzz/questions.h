@@ -82,15 +82,15 @@ inline npss_answer pair_by(Maker maker, uint8_t form, const std::string &left, c
 /* The answer to a line, without the byte that ends it. */
 inline std::string answer_to(Maker maker, const std::string &line, uint8_t form, char end) {
     npss_answer fault = key_fault(line);
-    char told[64];
+    char refusal[64];
     if (line.size() > LONGEST_LINE) return "!too long";
     if (fault.status == NPSS_NOT_UTF8) {
-        std::snprintf(told, sizeof told, "!not UTF-8 at byte %zu", static_cast<size_t>(fault.place));
-        return told;
+        std::snprintf(refusal, sizeof refusal, "!not UTF-8 at byte %zu", static_cast<size_t>(fault.place));
+        return refusal;
     }
     if (fault.status == NPSS_UNASSIGNED) {
-        std::snprintf(told, sizeof told, "!unassigned %04X at byte %zu", fault.code, static_cast<size_t>(fault.place));
-        return told;
+        std::snprintf(refusal, sizeof refusal, "!unassigned %04X at byte %zu", fault.code, static_cast<size_t>(fault.place));
+        return refusal;
     }
     std::string key = maker(form, line);
     return key.find(end) == std::string::npos ? "=" + key : "!line end in key";
@@ -101,9 +101,9 @@ inline Wanted answers_by(Maker maker, const Question &asked, char end) {
     Wanted wanted = {answer(NPSS_DONE), {}};
     for (size_t at = 0; at < asked.text.size();) {
         size_t stop = std::min(asked.text.find(end, at), asked.text.size());
-        std::string told = answer_to(maker, asked.text.substr(at, stop - at), asked.form, end);
-        if (told[0] == '!') wanted.answer.fault = 1;
-        wanted.made += told + end;
+        std::string answered = answer_to(maker, asked.text.substr(at, stop - at), asked.form, end);
+        if (answered[0] == '!') wanted.answer.fault = 1;
+        wanted.made += answered + end;
         at = stop + 1;
     }
     return wanted;

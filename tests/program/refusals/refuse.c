@@ -42,7 +42,7 @@ static char how;
    copy tells of its calls. */
 static unsigned long next_copy, step;
 static int ends = -1;
-static unsigned long *told;
+static unsigned long *copy_calls;
 
 /* Where the process stands in its files, of which a copy moves the places too. */
 enum { FILES = 64, PATIENCE = 120 };
@@ -54,9 +54,9 @@ static void begin_copies(const char *asked) {
     next_copy = strtoul(asked, &rest, 10);
     step = strtoul(rest + 1, NULL, 10);
     ends = path ? (int)syscall(SYS_open, path, O_WRONLY | O_CREAT | O_TRUNC | O_CLOEXEC, 0666) : -1;
-    told = mmap(NULL, sizeof calls, PROT_READ | PROT_WRITE, MAP_SHARED | MAP_ANONYMOUS, -1, 0);
-    if (told == MAP_FAILED) told = NULL;
-    if (ends < 0 || !told) next_copy = 0;
+    copy_calls = mmap(NULL, sizeof calls, PROT_READ | PROT_WRITE, MAP_SHARED | MAP_ANONYMOUS, -1, 0);
+    if (copy_calls == MAP_FAILED) copy_calls = NULL;
+    if (ends < 0 || !copy_calls) next_copy = 0;
 }
 
 __attribute__((constructor)) static void begin(void) {
@@ -75,7 +75,7 @@ __attribute__((constructor)) static void begin(void) {
 }
 
 __attribute__((destructor)) static void end(void) {
-    if (told) memcpy(told, calls, sizeof calls);
+    if (copy_calls) memcpy(copy_calls, calls, sizeof calls);
     const char *path = getenv("REFUSE_COUNTS");
     if (!path) return;
     char line[100];
@@ -111,8 +111,8 @@ static void tell_end(pid_t copy, int out, int err) {
     if (waitpid(copy, &status, 0) != copy) _exit(125);
     for (int file = 0; file < FILES; file++)
         if (places[file] >= 0) lseek(file, places[file], SEEK_SET);
-    int length = snprintf(line, sizeof line, "%lu %d %lu %lu %lu %ld %ld\n", next_copy, status, told[MEMORY], told[READ],
-                          told[WRITE], (long)lseek(out, 0, SEEK_END), (long)lseek(err, 0, SEEK_END));
+    int length = snprintf(line, sizeof line, "%lu %d %lu %lu %lu %ld %ld\n", next_copy, status, copy_calls[MEMORY], copy_calls[READ],
+                          copy_calls[WRITE], (long)lseek(out, 0, SEEK_END), (long)lseek(err, 0, SEEK_END));
     if (syscall(SYS_write, ends, line, (size_t)length) != length) _exit(125);
     append(out);
     append(err);
@@ -122,7 +122,7 @@ static void tell_end(pid_t copy, int out, int err) {
 static int is_copy(int of) {
     if (kind != of || !next_copy || calls[of] != next_copy) return 0;
     int out = copy_of(1), err = copy_of(2);
-    memset(told, 0, sizeof calls);
+    memset(copy_calls, 0, sizeof calls);
     for (int file = 0; file < FILES; file++) places[file] = lseek(file, 0, SEEK_CUR);
     pid_t copy = fork();
     if (copy < 0) _exit(125);

@@ -30,7 +30,7 @@ _WORD = 16
 _LAST_PLACE = (1 << 63) - 1
 _MISSING = "the record is missing; see `npss-registry relog`"
 
-_Record = tuple[int, bytes]
+_PlacedBody = tuple[int, bytes]
 
 
 def _packed(word: bytes, bodies: Sequence[bytes]) -> bytes:
@@ -38,7 +38,7 @@ def _packed(word: bytes, bodies: Sequence[bytes]) -> bytes:
     return word + zlib.compress(b"".join(struct.pack(">I", len(body)) + body for body in bodies), 1)
 
 
-def _unpacked(last: int, value: bytes) -> list[_Record]:
+def _unpacked(last: int, value: bytes) -> list[_PlacedBody]:
     """The records of a batch, with their places."""
     try:
         text, bodies, at = zlib.decompress(value[_WORD:]), [], 0
@@ -80,7 +80,7 @@ class EtcdLog:
         # The keys of all tails.
         self._tails = {"key": spelled(self._prefix + b"/tail/"), "range_end": spelled(self._prefix + b"/tail0")}
         # Of each shard the tail that was seen last, and the last records up to it.
-        self._seen: dict[int, tuple[Optional[bytes], list[_Record]]] = {}
+        self._seen: dict[int, tuple[Optional[bytes], list[_PlacedBody]]] = {}
         self._range(self._tail_key(0))
 
     def _tail_key(self, shard: int) -> bytes:
@@ -173,9 +173,9 @@ class EtcdLog:
             kept = self._read(shard, behind, most, tail)
         return bounded([record for record in kept if record[0] > behind][:most])
 
-    def _read(self, shard: int, behind: int, most: int, tail: bytes) -> list[_Record]:
+    def _read(self, shard: int, behind: int, most: int, tail: bytes) -> list[_PlacedBody]:
         """Reads the batches behind a place, and keeps the last records where the tail is reached."""
-        found: list[_Record] = []
+        found: list[_PlacedBody] = []
         at, last, limit = behind, _last_of(tail), _BATCHES
         while at < last and at - behind < most and (len(found) < 2 or size_of(found) < MOST_READ):
             batches = self._range(self._key(shard, at + 1), self._key(shard, _LAST_PLACE), limit)
@@ -189,7 +189,7 @@ class EtcdLog:
             limit = min(2 * limit, _MOST_BATCHES) if sum(len(value) for _, value in batches) < _BYTES_READ else limit
         return found
 
-    def _batch(self, shard: int, pair: Pair, at: int, is_first: bool) -> list[_Record]:
+    def _batch(self, shard: int, pair: Pair, at: int, is_first: bool) -> list[_PlacedBody]:
         """The records of a batch, which follow a place; of the first one some may stand before it, or none before the log's first one."""
         batch = _unpacked(_place_of(pair[0]), pair[1])
         if not batch or (batch[0][0] != at + 1 and not is_first) or (batch[0][0] > at + 1 and self._range(self._key(shard, 0), pair[0])):
@@ -252,7 +252,7 @@ class EtcdLog:
         self._hearing.close()
 
 
-def _last_records(records: list[_Record]) -> list[_Record]:
+def _last_records(records: list[_PlacedBody]) -> list[_PlacedBody]:
     """The last of some records, as many as are kept; one at least."""
     size, first = 0, len(records)
     while first > 0 and len(records) - first < _KEPT and (size == 0 or size + len(records[first - 1][1]) <= _BYTES_KEPT):
