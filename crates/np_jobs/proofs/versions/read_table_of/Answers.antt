@@ -1,4 +1,4 @@
-use Rattle.std.proofs.Common.{◌≡◌, inl, inr, refl, subst, sym}
+use Rattle.std.proofs.Common.{inl, inr, refl, subst, sym}
 use Rattle.std.proofs.lemmas.Result.{IfErr-weaker, IfOk-weaker, err_from_is_err_and}
 use Rattle.np_versions.specs.Versions.{VersionData}
 use Rattle.np_versions.specs.declared.faults.TableFault.TheVariants.{Memory}
