@@ -22,7 +22,7 @@ use Rattle.np_versions.proofs.MappingLemmas.{IsFullDecomposition-flat_map, full_
 use Rattle.np_versions.proofs.RowLemmas.{entry_at-row, entry_at-within, place_of_entry}
 use Rattle.np_caseless.specs.Faults.{IsFoldedAgain, IsFoldedTooLong}
 use Rattle.np_caseless.specs.Folded.{FoldedVersion, fold_all, is_quiet}
-use Rattle.np_caseless.specs.inside.FirstFaults.{Below, FoldsWell, IsFine, IsFoldingAt, IsOfArithmetic, IsRowAt}
+use Rattle.np_caseless.specs.inside.FirstFaults.{Below, FoldsWell, IsFine, IsFoldingAt, IsOfArithmetic, IsQuietRowAt, IsRowAt}
 use Rattle.np_caseless.specs.inside.Keys.{caseless}
 use Rattle.np_caseless.proofs.KeyLemmas.{caseless_is}
 use Rattle.np_caseless.proofs.LengthLemmas.{full_of_more}
@@ -178,13 +178,17 @@ module _ (v : FoldedVersion) (sound : IsSound v.version) where
 
   -- each code point is one of those that are looked at, or has no fault
   pub looked_at : (c : ℕ) → (Below (IsFoldingAt v.foldings) (length v.foldings) c
-      ⊎ (Below (IsRowAt v.version.entries) (length v.version.entries) c ⊎ IsOfArithmetic v c)) ⊎ IsFine v c
+      ⊎ (Below (IsQuietRowAt v) (length v.version.entries) c ⊎ IsOfArithmetic v c)) ⊎ IsFine v c
   looked_at c =
       elim (cases_Bool (is_quiet v.foldings c)) [
         | inl quiet ↦
             elim (cases_Bool (is_final v.version true c)) [
               | inl final ↦ inr (plain_fine c quiet final)
-              | inr counts ↦ inl (inr (mapped_where c (has_hangul v.version && is_syllable c) refl counts))
+              | inr counts ↦
+                  elim (mapped_where c (has_hangul v.version && is_syllable c) refl counts) [
+                    | inl row ↦ inl (inr (inl (row.0, row.1, (row.2, quiet))))
+                    | inr on ↦ inl (inr (inr on))
+                  ]
             ]
         | inr folds ↦ inl (inl (listed v.foldings c folds))
       ]

@@ -3,7 +3,7 @@ use Rattle.std.proofs.Common.{◌≡◌, ℕ, ◌+◌, ◌-◌, ◌<◌, ◌≤�
 use Rattle.std.specs.Prelude.{nat_lt}
 use Rattle.std.specs.List.{slice_get}
 use Rattle.std.specs.Option.{option_map}
-use Rattle.std.proofs.lemmas.Bool.{cases_lt, cases_order, cond-true, cond-false, ltb-true, ltb-false}
+use Rattle.std.proofs.lemmas.Bool.{both_ways, cases_lt, cases_order, cond-true, cond-false, ltb-true, ltb-false}
 use Rattle.np_code_points.specs.Hangul.{is_syllable}
 use Rattle.np_code_points.proofs.HangulLemmas.{among_bounds}
 use Rattle.np_foldings.specs.Foldings.{Folding}
@@ -11,11 +11,12 @@ use Rattle.np_foldings.specs.declared.lowercases.Lowercase.{Lowercase}
 use Rattle.np_ucd.specs.Entries.{Entry}
 use Rattle.np_versions.specs.inside.FirstFaults.{IsFirst, IsLeastOf}
 use Rattle.np_caseless.specs.ConditionFaults.{HasFault, IsFaultless, IsLeastFault, number_of, place_of}
-use Rattle.np_caseless.specs.Faults.{IsNotFolded}
-use Rattle.np_caseless.specs.Folded.{FoldedVersion}
+use Rattle.np_caseless.specs.Faults.{IsFoldedTooLong, IsNotFolded}
+use Rattle.np_caseless.specs.Folded.{FoldedVersion, is_quiet}
 use Rattle.np_caseless.specs.declared.faults.ConditionFault.{ConditionFault}
 use Rattle.np_caseless.specs.declared.faults.ConditionFault.TheVariants.{FoldsUnassigned, FoldsToUnassigned, FoldsAgain, FoldedTooLong, NotFolded, Memory}
-use Rattle.np_caseless.specs.inside.FirstFaults.{Below, FoldsWell, IsFaultAt, IsFine, IsFirstFault, IsFirstOf, IsFoldingAt, IsRowAt, IsSyllableAt, sooner}
+use Rattle.np_caseless.proofs.FineLemmas.{quiet_well}
+use Rattle.np_caseless.specs.inside.FirstFaults.{Below, FoldsWell, IsFaultAt, IsFine, IsFirstFault, IsFirstOf, IsFoldingAt, IsQuietHere, IsQuietRowAt, IsSyllableAt, sooner}
 
 -- ---- places
 
@@ -105,10 +106,28 @@ module _ (v : FoldedVersion) where
   pub of_no_folding : (k : ℕ) → slice_get v.foldings k ≡ None → IsFirstOf v (IsFoldingAt v.foldings k) None
   of_no_folding k none = λ c is. absurd (let e = ap (option_map (λ (x : Folding). x.code)) none in cc)
 
-  pub of_row : (k : ℕ) (e : Entry) (o : Option ConditionFault) → slice_get v.version.entries k ≡ Some e → IsFirstOf v (λ d. d ≡ e.first) o → IsFirstOf v (IsRowAt v.version.entries k) o
-  of_row k e o at h =
-      of_fewer (λ d. d ≡ e.first) (IsRowAt v.version.entries k) o
-      (λ c is. same_some e.first c (sym (ap (option_map (λ (x : Entry). x.first)) at) ∙ is)) h
+  pub of_quiet_row : (k : ℕ) (e : Entry) (o : Option ConditionFault) → slice_get v.version.entries k ≡ Some e → IsFirstOf v (IsQuietHere v.foldings e.first) o
+      → IsFirstOf v (IsQuietRowAt v k) o
+  of_quiet_row k e o at h =
+      of_fewer (IsQuietHere v.foldings e.first) (IsQuietRowAt v k) o
+      (λ c is. (same_some e.first c (sym (ap (option_map (λ (x : Entry). x.first)) at) ∙ is.0), is.1)) h
+
+  -- of a code point, where it folds to itself alone
+  pub first_folding : (c : ℕ) → is_quiet v.foldings c ≡ false → IsFirstOf v (IsQuietHere v.foldings c) None
+  first_folding c folds = λ d here. absurd (both_ways (is_quiet v.foldings c) folds (subst (λ e. is_quiet v.foldings e ≡ true) here.0 here.1))
+
+  pub first_long : (c code : ℕ) → code ≡ c → is_quiet v.foldings c ≡ true → IsFoldedTooLong v c → IsFirstOf v (IsQuietHere v.foldings c) (Some (FoldedTooLong code))
+  first_long c code is quiet long =
+      record {
+        at = (refl, subst (IsFoldedTooLong v) (sym is) long, subst (FoldsWell v) (sym is) (quiet_well v c quiet));
+        before = λ d here lt. absurd (omega (arith, here.0, is, lt));
+      }
+
+  pub first_short : (c : ℕ) → is_quiet v.foldings c ≡ true → ¬ (IsFoldedTooLong v c) → IsFirstOf v (IsQuietHere v.foldings c) None
+  first_short c quiet short = λ d here. subst (IsFine v) (sym here.0) (record { folds = quiet_well v c quiet; short = short })
+
+  pub first_fine : (c : ℕ) → (is_quiet v.foldings c ≡ true → IsFine v c) → IsFirstOf v (IsQuietHere v.foldings c) None
+  first_fine c fine = λ d here. subst (IsFine v) (sym here.0) (fine (subst (λ e. is_quiet v.foldings e ≡ true) here.0 here.1))
 
   -- of three, where the others have none
   among_three : (S T U : ℕ → Type 0) (c : ℕ) → S c ⊎ (T c ⊎ U c) → (S c ⊎ T c) ⊎ U c

@@ -14,6 +14,7 @@ pub mod ImageTableLemmas
 pub mod KeyLemmas
 pub mod LeastLemmas
 pub mod LengthLemmas
+pub mod LentLemmas
 pub mod ListedLemmas
 pub mod QuietLemmas
 mod RunLemmas

@@ -3,10 +3,10 @@
 ghost use Rattle.std.specs.Prelude.{◌≡◌, ◌<◌, ℕ, length, IfOk, MatchOption};
 ghost use Rattle.np_caseless.specs.ConditionFaults.{IsFaultless, IsLeastFault};
 ghost use Rattle.np_caseless.specs.Folded.{folded_by};
-ghost use Rattle.np_caseless.specs.inside.FirstFaults.{Below, IsFirstOf, IsFoldingAt, IsOfArithmetic, IsRowAt, lowercase_fault};
+ghost use Rattle.np_caseless.specs.inside.FirstFaults.{Below, IsFirstOf, IsFoldingAt, IsOfArithmetic, IsQuietRowAt, lowercase_fault};
 
 use crate::faults::{ConditionFault, sooner};
-use crate::folding_faults::fault_at;
+use crate::folding_faults::{fault_at, quiet_fault_at};
 use crate::not_folded::first_not_folded;
 use crate::quiet::code_at;
 use crate::quiet_hangul::is_hangul_quiet;
@@ -47,7 +47,7 @@ fn first_of_foldings<T: NormTable>(
     Ok(first)
 }
 
-/// The fault of the first code point of a row.
+/// The fault of the first code point of a row, where it folds to itself alone.
 fn fault_of_row<T: NormTable>(
     alloc: Global,
     table: &T,
@@ -55,20 +55,21 @@ fn fault_of_row<T: NormTable>(
     at: usize,
 ) -> Result<Option<ConditionFault>, Memory>
     requires { at < length (T.model table.now).entries }
-    ensures { IfOk result (IsFirstOf (folded_by (T.model table.now) foldings.now) (IsRowAt (T.model table.now).entries at)) }
+    ensures { IfOk result (IsFirstOf (folded_by (T.model table.now) foldings.now) (IsQuietRowAt (folded_by (T.model table.now) foldings.now) at)) }
 {
     let row = table.version().row_in(at);
-    fault_at(alloc, table, foldings, row.first)
+    quiet_fault_at(alloc, table, foldings, row.first)
 }
 
-/// The first fault of the first code points of the rows, among which are all that have a mapping in the file.
+/// The first fault of the first code points of the rows, among which are all that have a mapping in the file. What folds was
+/// looked at before.
 fn first_of_rows<T: NormTable>(
     alloc: Global,
     table: &T,
     foldings: &Foldings,
 ) -> Result<Option<ConditionFault>, Memory>
     ensures { IfOk result (IsFirstOf (folded_by (T.model table.now) foldings.now)
-        (Below (IsRowAt (T.model table.now).entries) (length (T.model table.now).entries))) }
+        (Below (IsQuietRowAt (folded_by (T.model table.now) foldings.now)) (length (T.model table.now).entries))) }
 {
     let mut first: Option<ConditionFault> = None;
     for at in 0..table.version().row_count() {

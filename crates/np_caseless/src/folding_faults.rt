@@ -3,7 +3,7 @@ ghost use Rattle.std.specs.Prelude.{◌≡◌, ◌↔◌, ◌∷◌, [], true, f
 ghost use Rattle.std.specs.List.{list_all};
 ghost use Rattle.np_caseless.specs.Faults.{IsFoldedTooLong};
 ghost use Rattle.np_caseless.specs.Folded.{folded_by, is_quiet as quiet};
-ghost use Rattle.np_caseless.specs.inside.FirstFaults.{FoldsWell, IsFaultAt, IsFine};
+ghost use Rattle.np_caseless.specs.inside.FirstFaults.{FoldsWell, IsFaultAt, IsFine, IsFirstOf, IsQuietHere};
 ghost use Rattle.np_versions.specs.Mappings.{is_final};
 ghost use Rattle.np_versions.specs.Versions.{is_assigned};
 
@@ -11,6 +11,7 @@ use crate::faults::ConditionFault;
 use crate::folded_again::folds_again;
 use crate::keys::caseless_form;
 use crate::own_images::is_own;
+use crate::quick_images::{likely_image, quick_parts};
 use crate::quiet::{folding_of, is_quiet};
 use np_code_points::hangul::is_syllable;
 use np_code_points::text::{chars_of, string_of};
@@ -61,7 +62,7 @@ fn folding_fault<T: NormTable>(
 }
 
 /// Whether the caseless NFKD form of a code point is known not to be too long, since it is its NFKD form.
-fn is_known_short<T: NormTable>(table: &T, foldings: &Foldings, code: char) -> bool
+fn is_own_short<T: NormTable>(table: &T, foldings: &Foldings, code: char) -> bool
     ensures { IsTrue result → ¬ (IsFoldedTooLong (folded_by (T.model table.now) foldings.now) code) }
 {
     table.meets_conditions();
@@ -69,6 +70,30 @@ fn is_known_short<T: NormTable>(table: &T, foldings: &Foldings, code: char) -> b
         return false;
     }
     is_own(table, foldings, true, code)
+}
+
+/// Whether code points are known to stand in place of one, whose caseless NFKD form is then not too long.
+fn is_short_by<T: NormTable>(table: &T, foldings: &Foldings, code: char, images: &[char]) -> bool
+    ensures { IsTrue result → ¬ (IsFoldedTooLong (folded_by (T.model table.now) foldings.now) code) }
+{
+    table.meets_conditions();
+    match quick_parts(table, foldings, true, code, images) {
+        Some(parts) => parts.len() <= MOST,
+        None => false,
+    }
+}
+
+/// Whether the caseless NFKD form of a code point is known not to be too long, since it is the NFKD form of its image.
+fn is_image_short<T: NormTable>(
+    alloc: Global,
+    table: &T,
+    foldings: &Foldings,
+    code: char,
+) -> Result<bool, Memory>
+    ensures { IfOk result (λ is. IsTrue is → ¬ (IsFoldedTooLong (folded_by (T.model table.now) foldings.now) code)) }
+{
+    let likely = likely_image(alloc, table, foldings, true, code)?;
+    Ok(is_short_by(table, foldings, code, likely.as_slice()))
 }
 
 /// Whether the caseless NFKD form of a code point is too long.
@@ -81,7 +106,10 @@ fn is_too_long<T: NormTable>(
     ensures { IfOk result (λ long. IsTrue long ↔ IsFoldedTooLong (folded_by (T.model table.now) foldings.now) code) }
 {
     table.meets_conditions();
-    if is_known_short(table, foldings, code) {
+    if is_quiet(foldings, code) && is_own_short(table, foldings, code) {
+        return Ok(false);
+    }
+    if is_image_short(alloc, table, foldings, code)? {
         return Ok(false);
     }
     let text = string_of(alloc, slice::from_ref(&code))?;
@@ -90,16 +118,23 @@ fn is_too_long<T: NormTable>(
     Ok(codes.len() > MOST)
 }
 
-/// Whether a code point is known to fold to itself alone and to have no mapping: so is nearly each one.
-fn is_plain<T: NormTable>(table: &T, foldings: &Foldings, code: char) -> bool
-    ensures quiet { IsTrue result → quiet foldings.now code ≡ true }
-    ensures unmapped { IsTrue result → is_final (T.model table.now) true code ≡ true }
+/// Whether a code point is known to have no mapping: so is nearly each one.
+fn is_unmapped<T: NormTable>(table: &T, code: char) -> bool
+    ensures { IsTrue result → is_final (T.model table.now) true code ≡ true }
 {
     table.meets_conditions();
     if is_syllable(u32::from(code)) {
         return false;
     }
-    table.full(code, true).is_empty() && is_quiet(foldings, code)
+    table.full(code, true).is_empty()
+}
+
+/// Whether a code point is known to fold to itself alone and to have no mapping.
+fn is_plain<T: NormTable>(table: &T, foldings: &Foldings, code: char) -> bool
+    ensures quiet { IsTrue result → quiet foldings.now code ≡ true }
+    ensures unmapped { IsTrue result → is_final (T.model table.now) true code ≡ true }
+{
+    is_unmapped(table, code) && is_quiet(foldings, code)
 }
 
 /// The fault of a code point that is no surrogate, but for its lowercase.
@@ -128,6 +163,46 @@ fn fault_of<T: NormTable>(
         }));
     }
     Ok(None)
+}
+
+/// The fault of a code point that folds to itself alone, but for its lowercase. One that folds has none here.
+fn fault_of_quiet<T: NormTable>(
+    alloc: Global,
+    table: &T,
+    foldings: &Foldings,
+    code: char,
+) -> Result<Option<ConditionFault>, Memory>
+    ensures { IfOk result (IsFirstOf (folded_by (T.model table.now) foldings.now) (IsQuietHere foldings.now code)) }
+{
+    if !is_quiet(foldings, code) {
+        return Ok(None);
+    }
+    if is_too_long(alloc, table, foldings, code)? {
+        return Ok(Some(ConditionFault::FoldedTooLong {
+            code: u32::from(code),
+        }));
+    }
+    Ok(None)
+}
+
+/// The fault of a code point that folds to itself alone, but for its lowercase. One that folds has none here.
+pub(crate) fn quiet_fault_at<T: NormTable>(
+    alloc: Global,
+    table: &T,
+    foldings: &Foldings,
+    code: u32,
+) -> Result<Option<ConditionFault>, Memory>
+    ensures { IfOk result (IsFirstOf (folded_by (T.model table.now) foldings.now) (IsQuietHere foldings.now code)) }
+{
+    table.meets_conditions();
+    foldings.are_in_order();
+    let Some(scalar) = char::from_u32(code) else {
+        return Ok(None);
+    };
+    if is_unmapped(table, scalar) {
+        return Ok(None);
+    }
+    fault_of_quiet(alloc, table, foldings, scalar)
 }
 
 /// The fault of a code point, but for its lowercase. A surrogate has none.

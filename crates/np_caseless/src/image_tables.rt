@@ -1,5 +1,5 @@
 //! The images of all code points of a version with its foldings.
-ghost use Rattle.std.specs.Prelude.{◌≡◌, ◌≢◌, ℕ, Bool, ◌∷◌, [], get_or, length, option_map, slice_get, IfOk, IfSome, OnOk};
+ghost use Rattle.std.specs.Prelude.{◌≡◌, ◌≢◌, ℕ, Bool, ◌∷◌, [], get_or, length, option_map, slice_get, IfOk, IfSome, IsTrue, OnOk};
 ghost use Rattle.np_caseless.specs.Folded.{folded_by};
 ghost use Rattle.np_caseless.specs.inside.FirstFaults.{Below, IsFoldingAt, IsOfArithmetic, IsRowAt};
 ghost use Rattle.np_caseless.specs.inside.Images.{AreImages};
@@ -109,7 +109,18 @@ fn clear_syllables<T: NormTable>(table: &T, foldings: &Foldings, own: &mut Vec<u
     }
 }
 
-/// Looks at the first code point of a row. Where it isn't known to be its own image it is cleared and answered.
+/// Whether a code point isn't marked as its own image.
+fn is_unmarked(own: &[u8], code: char) -> bool
+    ensures { IsTrue result → get_or own.now code 0 ≢ 1 }
+{
+    match own.get(u32::from(code) as usize) {
+        Some(mark) => *mark != 1,
+        None => true,
+    }
+}
+
+/// Looks at the first code point of a row. Where it isn't known to be its own image it is cleared and answered, unless it was
+/// cleared before.
 fn look_at<T: NormTable>(
     table: &T,
     foldings: &Foldings,
@@ -122,6 +133,9 @@ fn look_at<T: NormTable>(
 {
     table.meets_conditions();
     let code = char::from_u32(first)?;
+    if is_unmarked(own.as_slice(), code) {
+        return None;
+    }
     if table.hangul() && is_syllable(first) {
         return None;
     }

@@ -6,7 +6,7 @@ use Rattle.np_ucd.specs.Entries.{Entry}
 use Rattle.np_versions.specs.Versions.{has_hangul}
 use Rattle.np_caseless.specs.ConditionFaults.{place_of}
 use Rattle.np_caseless.specs.Faults.{IsUnassignedFolded, IsFoldedToUnassigned, IsFoldedAgain, IsFoldedTooLong}
-use Rattle.np_caseless.specs.Folded.{FoldedVersion}
+use Rattle.np_caseless.specs.Folded.{FoldedVersion, is_quiet}
 use Rattle.np_caseless.specs.declared.faults.ConditionFault.{ConditionFault}
 use Rattle.np_caseless.specs.declared.faults.ConditionFault.TheVariants.{FoldsUnassigned, FoldsToUnassigned, FoldsAgain, FoldedTooLong, NotFolded, Memory}
 
@@ -60,6 +60,14 @@ IsFoldingAt foldings k c = option_map (λ f. f.code) (slice_get foldings k) ≡ 
 -- the first code point of the row at a place
 abbrev pub IsRowAt : List Entry → ℕ → ℕ → Type 0
 IsRowAt entries k c = option_map (λ e. e.first) (slice_get entries k) ≡ Some c
+
+-- a code point, where it folds to itself alone
+abbrev pub IsQuietHere : List Folding → ℕ → ℕ → Type 0
+IsQuietHere foldings code c = (c ≡ code) × (is_quiet foldings c ≡ true)
+
+-- the first code point of the row at a place, where it folds to itself alone
+abbrev pub IsQuietRowAt : FoldedVersion → ℕ → ℕ → Type 0
+IsQuietRowAt v k c = IsRowAt v.version.entries k c × (is_quiet v.foldings c ≡ true)
 
 -- the syllable at a place
 abbrev pub IsSyllableAt : ℕ → ℕ → Type 0
