@@ -1,10 +1,15 @@
 -- Lists that begin with what code points lead to.
-use Rattle.std.proofs.Common.{◌≡◌, ℕ, ◌+◌, ◌<◌, Bool, true, false, eqb, List, [], ◌∷◌, ◌++◌, length, get_or, take, flat_map, Option, Some, None, IfSome, sym, ap, ◌∙◌}
+use Rattle.std.proofs.Common.{◌≡◌, ℕ, ◌+◌, ◌<◌, Bool, true, false, eqb, List, [], ◌∷◌, ◌++◌, length, get_or, take, flat_map, Option, Some, None, IfSome, refl, sym, ap, ◌∙◌}
 use Rattle.std.specs.List.{list_all}
-use Rattle.std.proofs.lemmas.Bool.{eqb-true}
+use Rattle.std.proofs.lemmas.Bool.{and_from, eqb-true}
 use Rattle.std.proofs.lemmas.List.{append-nil, append_assoc, flat_map_more, nil_from_length, take_more}
 use Rattle.np_versions.specs.inside.FullDecompositions.{full_of}
-use Rattle.np_caseless.specs.Folded.{FoldedVersion}
+use Rattle.np_versions.specs.Conditions.{IsSound}
+use Rattle.np_versions.specs.Mappings.{is_final}
+use Rattle.np_versions.specs.Versions.{class_of}
+use Rattle.np_versions.proofs.MappingLemmas.{final-decomposed}
+use Rattle.np_caseless.specs.Folded.{FoldedVersion, folding_at, is_quiet}
+use Rattle.np_caseless.proofs.ImageLemmas.{alone_all, starter_stays}
 use Rattle.np_caseless.specs.inside.Images.{AreImages, AreLast, LeadsOnce, folded_parts, last_parts, once_folded, stays}
 
 -- one more code point
@@ -73,3 +78,23 @@ module _ (v : FoldedVersion) where
         second = λ e. ap (list_all (stays v true)) (append-nil (once_folded v true c)) ∙ h.second e;
         parts = sym is ∙ h.last ∙ sym (append-nil (last_parts v compat c));
       }
+
+-- A starter that has no canonical mapping.
+module _ (v : FoldedVersion) (sound : IsSound v.version) where
+  letter_leads : (compat : Bool) (c : ℕ) (parts : List ℕ) → full_of v.version false c ≡ c ∷ [] → class_of v.version c ≡ 0 → parts ≡ folded_parts v compat c → LeadsOnce v compat c parts
+  letter_leads compat c parts alone starter is =
+      leads v compat c (c ∷ []) parts (sym alone) (and_from _ _ (starter_stays v compat c (class_of v.version c) refl starter) refl)
+      (is ∙ sym (append-nil (folded_parts v compat c)))
+
+  pub letter_once : (compat : Bool) (c : ℕ) (parts : List ℕ) → compat ≡ false → full_of v.version false c ≡ c ∷ [] → class_of v.version c ≡ 0 → parts ≡ folded_parts v compat c
+      → AreLast v compat c parts
+  letter_once compat c parts e alone starter is = last_once v compat c parts parts e (letter_leads compat c parts alone starter is) refl
+
+  pub letter_twice : (compat : Bool) (c : ℕ) (parts : List ℕ) → compat ≡ true → full_of v.version false c ≡ c ∷ [] → class_of v.version c ≡ 0 → list_all (is_quiet v.foldings) parts ≡ true
+      → parts ≡ folded_parts v compat c → AreLast v compat c parts
+  unfolding folded_parts
+  letter_twice false c parts e alone starter quiets is = cc
+  letter_twice true c parts e alone starter quiets is =
+      let finals = ap (list_all (is_final v.version true)) is ∙ final-decomposed v.version true sound.shallow (folding_at v.foldings c) in
+      let rest = alone_all v sound true parts quiets finals in
+      last_twice v true c parts parts refl (letter_leads true c parts alone starter is) rest.0 rest.1

@@ -11,7 +11,7 @@ use crate::faults::ConditionFault;
 use crate::folded_again::folds_again;
 use crate::keys::caseless_form;
 use crate::own_images::is_own;
-use crate::quick_images::{likely_image, quick_parts};
+use crate::quick_images::{folded_image, likely_image, quick_parts};
 use crate::quiet::{folding_of, is_quiet};
 use np_code_points::hangul::is_syllable;
 use np_code_points::text::{chars_of, string_of};
@@ -72,6 +72,17 @@ fn is_own_short<T: NormTable>(table: &T, foldings: &Foldings, code: char) -> boo
     is_own(table, foldings, true, code)
 }
 
+/// Whether what a code point folds to is known to stand in its place, and its caseless NFKD form is then not too long.
+fn is_folded_short<T: NormTable>(table: &T, foldings: &Foldings, code: char) -> bool
+    ensures { IsTrue result → ¬ (IsFoldedTooLong (folded_by (T.model table.now) foldings.now) code) }
+{
+    table.meets_conditions();
+    match folded_image(table, foldings, true, &code) {
+        Some((_images, parts)) => parts.len() <= MOST,
+        None => false,
+    }
+}
+
 /// Whether code points are known to stand in place of one, whose caseless NFKD form is then not too long.
 fn is_short_by<T: NormTable>(table: &T, foldings: &Foldings, code: char, images: &[char]) -> bool
     ensures { IsTrue result → ¬ (IsFoldedTooLong (folded_by (T.model table.now) foldings.now) code) }
@@ -96,6 +107,24 @@ fn is_image_short<T: NormTable>(
     Ok(is_short_by(table, foldings, code, likely.as_slice()))
 }
 
+/// Whether the caseless NFKD form of a code point is known not to be too long.
+fn is_known_short<T: NormTable>(
+    alloc: Global,
+    table: &T,
+    foldings: &Foldings,
+    code: char,
+) -> Result<bool, Memory>
+    ensures { IfOk result (λ is. IsTrue is → ¬ (IsFoldedTooLong (folded_by (T.model table.now) foldings.now) code)) }
+{
+    if !is_quiet(foldings, code) {
+        return Ok(is_folded_short(table, foldings, code));
+    }
+    if is_own_short(table, foldings, code) {
+        return Ok(true);
+    }
+    is_image_short(alloc, table, foldings, code)
+}
+
 /// Whether the caseless NFKD form of a code point is too long.
 fn is_too_long<T: NormTable>(
     alloc: Global,
@@ -106,10 +135,7 @@ fn is_too_long<T: NormTable>(
     ensures { IfOk result (λ long. IsTrue long ↔ IsFoldedTooLong (folded_by (T.model table.now) foldings.now) code) }
 {
     table.meets_conditions();
-    if is_quiet(foldings, code) && is_own_short(table, foldings, code) {
-        return Ok(false);
-    }
-    if is_image_short(alloc, table, foldings, code)? {
+    if is_known_short(alloc, table, foldings, code)? {
         return Ok(false);
     }
     let text = string_of(alloc, slice::from_ref(&code))?;

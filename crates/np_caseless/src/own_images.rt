@@ -9,7 +9,7 @@ ghost use Rattle.np_versions.specs.inside.FullDecompositions.{full_of};
 use crate::images::are_images;
 use crate::keys::caseless_form;
 use crate::lent_parts::{do_stay, known_full};
-use crate::quick_images::{likely_image, quick_parts};
+use crate::quick_images::{folded_image, likely_image, quick_parts};
 use crate::quiet::{are_quiet, folding_of};
 use np_code_points::text::{chars_of, string_of};
 use np_code_points::{Form, Memory};
@@ -74,6 +74,9 @@ pub(crate) fn image_of<T: NormTable>(
         AreImages (folded_by (T.model table.now) foldings.now) compat (code ∷ []) (chars (string_bytes text)))) }
 {
     table.meets_conditions();
+    if let Some((images, _parts)) = folded_image(table, foldings, compat, &code) {
+        return Ok(Some(string_of(alloc, images)?));
+    }
     let likely = likely_image(alloc, table, foldings, compat, code)?;
     if quick_parts(table, foldings, compat, code, likely.as_slice()).is_some() {
         return Ok(Some(string_of(alloc, likely.as_slice())?));

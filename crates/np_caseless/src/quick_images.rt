@@ -1,19 +1,21 @@
 //! Images that are found without making what is normalized last.
-ghost use Rattle.std.specs.Prelude.{◌≡◌, ◌∷◌, [], flat_map, IfSome, IsTrue};
+ghost use Rattle.std.specs.Prelude.{◌≡◌, ◌∷◌, [], false, flat_map, IfSome, IsTrue};
 ghost use Rattle.np_caseless.specs.Folded.{folded_by};
-ghost use Rattle.np_caseless.specs.inside.Images.{AreImages, AreLast, LeadsOnce};
+ghost use Rattle.np_caseless.specs.inside.Images.{AreImages, AreLast, LeadsOnce, folded_parts};
+ghost use Rattle.np_versions.specs.Versions.{class_of};
 ghost use Rattle.np_versions.specs.inside.FullDecompositions.{full_of};
 
 use crate::folding::fold_chars;
 use crate::lent_parts::{behind_full, do_lead_to, do_stay, known_full};
-use crate::quiet::is_quiet;
+use crate::quiet::{are_quiet, folding_of};
 use np_code_points::Memory;
+use np_code_points::hangul::is_syllable;
 use np_foldings::Foldings;
 use np_versions::NormTable;
 use std::alloc::Global;
 use std::slice;
 
-/// What may be the image of a code point: what it folds to, or else what its decomposition does.
+/// What the decomposition of a code point folds to: its image, if it doesn't fold itself.
 pub(crate) fn likely_image<T: NormTable>(
     alloc: Global,
     table: &T,
@@ -21,13 +23,9 @@ pub(crate) fn likely_image<T: NormTable>(
     compat: bool,
     code: char,
 ) -> Result<Vec<char>, Memory> {
-    let one = slice::from_ref(&code);
-    if !is_quiet(foldings, code) {
-        return fold_chars(alloc, foldings, one);
-    }
     match known_full(table, compat, &code) {
         Some(full) => fold_chars(alloc, foldings, full),
-        None => fold_chars(alloc, foldings, one),
+        None => fold_chars(alloc, foldings, slice::from_ref(&code)),
     }
 }
 
@@ -92,7 +90,7 @@ fn are_last<T: NormTable>(
     do_lead_to(table, foldings, true, once, last)
 }
 
-/// The full decompositions of images, where these are known to stand in place of a code point.
+/// The full decompositions of images, where these are known to stand in place of a code point that folds to itself alone.
 pub(crate) fn quick_parts<'t, T: NormTable>(
     table: &'t T,
     foldings: &Foldings,
@@ -104,12 +102,66 @@ pub(crate) fn quick_parts<'t, T: NormTable>(
     ensures images { IfSome result (λ parts. AreImages (folded_by (T.model table.now) foldings.now) compat (code ∷ []) images.now) }
 {
     let parts = known_parts(table, compat, images)?;
-    if are_last(table, foldings, compat, code, (parts, parts)) {
-        return Some(parts);
-    }
     let once = known_full(table, compat, &code)?;
     if are_last(table, foldings, compat, code, (once, parts)) {
         return Some(parts);
+    }
+    None
+}
+
+/// Whether a code point is a starter that has no canonical mapping: so is nearly each letter.
+fn is_letter<T: NormTable>(table: &T, code: char) -> bool
+    ensures starter { IsTrue result → class_of (T.model table.now) code ≡ 0 }
+    ensures unmapped { IsTrue result → full_of (T.model table.now) false code ≡ code ∷ [] }
+{
+    table.meets_conditions();
+    if table.class(code) != 0 {
+        return false;
+    }
+    if table.hangul() && is_syllable(u32::from(code)) {
+        return false;
+    }
+    table.full(code, false).is_empty()
+}
+
+/// Whether what such a letter folds to is known to be its image, by what that decomposes to.
+fn are_letter_parts<T: NormTable>(
+    table: &T,
+    foldings: &Foldings,
+    compat: bool,
+    code: char,
+    parts: &[char],
+) -> bool
+    ensures { IsTrue result → parts.now ≡ folded_parts (folded_by (T.model table.now) foldings.now) compat code
+        → AreLast (folded_by (T.model table.now) foldings.now) compat code parts.now }
+{
+    table.meets_conditions();
+    if !is_letter(table, code) {
+        return false;
+    }
+    if !compat {
+        return true;
+    }
+    are_quiet(foldings, parts)
+}
+
+/// What a code point folds to, and what that decomposes to, where it is known to stand in place of the code point.
+pub(crate) fn folded_image<'t, T: NormTable>(
+    table: &'t T,
+    foldings: &'t Foldings,
+    compat: bool,
+    code: &'t char,
+) -> Option<(&'t [char], &'t [char])>
+    ensures images { IfSome result (λ both. AreImages (folded_by (T.model table.now) foldings.now) compat (code.now ∷ []) both.0.now) }
+    ensures parts { IfSome result (λ both. both.1.now ≡ flat_map (full_of (T.model table.now) compat) both.0.now) }
+{
+    let folding = folding_of(foldings, code);
+    let parts = known_parts(table, compat, folding)?;
+    if are_letter_parts(table, foldings, compat, *code, parts) {
+        return Some((folding, parts));
+    }
+    if are_last(table, foldings, compat, *code, (parts, parts)) {
+        return Some((folding, parts));
     }
     None
 }

@@ -6,8 +6,3 @@ pub returns-then-are_last-clause-images : goal.returns-then-are_last-clause-imag
 returns-then-are_last-clause-images g c =
     images_of_last (folded_by (g.T.NormTable.model c.args.table.now) c.args.foldings.now) c.args.compat c.args.code c.in_ok-parts.parts.now c.args.images.now
     (c.are_last.ensures c.if-are_last.true) c.in_ok-parts.ensures
-
-pub returns-then-are_last-2-clause-images : goal.returns-then-are_last-2-clause-images
-returns-then-are_last-2-clause-images g c =
-    images_of_last (folded_by (g.T.NormTable.model c.args.table.now) c.args.foldings.now) c.args.compat c.args.code c.in_ok-parts.parts.now c.args.images.now
-    (c.are_last-2.ensures c.if-are_last-2.true) c.in_ok-parts.ensures
