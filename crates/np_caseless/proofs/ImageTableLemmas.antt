@@ -1,5 +1,5 @@
 -- Marks of code points that are their own images, and what the others are looked for by.
-use Rattle.std.proofs.Common.{◌≡◌, ◌≢◌, ℕ, ◌+◌, ◌≤◌, ◌&&◌, Bool, true, false, List, [], ◌∷◌, length, flat_map, get_or, Some, None, refl, sym, ap, subst, ◌∙◌, inl, inr, arith}
+use Rattle.std.proofs.Common.{◌≡◌, ◌≢◌, ◌⊎◌, ℕ, ◌+◌, ◌≤◌, ◌&&◌, Bool, true, false, eqb, List, [], ◌∷◌, length, flat_map, get_or, Some, None, refl, sym, ap, subst, ◌∙◌, inl, inr, arith}
 use Rattle.std.specs.List.{list_all, slice_get}
 use Rattle.std.specs.Option.{option_map}
 use Rattle.std.proofs.lemmas.Bool.{and_from, and_parts, both_ways, cases_Bool}
@@ -13,7 +13,7 @@ use Rattle.np_forms.proofs.SyllableLemmas.{full_of-syllable}
 use Rattle.np_caseless.specs.Faults.{IsFoldedTooLong}
 use Rattle.np_ucd.specs.Entries.{Entry}
 use Rattle.np_versions.specs.Conditions.{IsSound}
-use Rattle.np_versions.specs.Mappings.{is_final}
+use Rattle.np_versions.specs.Mappings.{IsLent, is_final}
 use Rattle.np_versions.specs.Versions.{class_of, has_hangul, is_hangul}
 use Rattle.np_versions.specs.inside.FullDecompositions.{full_of}
 use Rattle.np_versions.proofs.HangulLemmas.{shape_of}
@@ -24,7 +24,7 @@ use Rattle.np_caseless.specs.inside.Images.{AreImages}
 use Rattle.np_caseless.specs.inside.ImageTables.{IsCleared, IsLessMarked, IsTold}
 use Rattle.np_caseless.proofs.FineLemmas.{mapped_where, parts_all}
 use Rattle.np_caseless.proofs.FirstLemmas.{below_next}
-use Rattle.np_caseless.proofs.ImageLemmas.{images_caseless, own_of}
+use Rattle.np_caseless.proofs.ImageLemmas.{images_caseless, lent_unmapped, own_of}
 use Rattle.np_caseless.proofs.KeyLemmas.{caseless_is}
 use Rattle.np_caseless.proofs.ListedLemmas.{listed}
 use Rattle.np_caseless.proofs.QuietLemmas.{final_weaker}
@@ -82,6 +82,16 @@ module _ (v : FoldedVersion) where
       ]
 
 module _ (v : FoldedVersion) (sound : IsSound v.version) where
+  -- what a table lends nothing for has no mapping, or is a syllable of the arithmetic
+  pub unlent_told : (compat : Bool) (own : List ℕ) (code c : ℕ) (lent : List ℕ) (none : Bool) → code ≡ c → IsLent v.version true code lent → none ≡ eqb (length lent) 0 → none ≡ true
+      → IsTold v compat own c
+  unlent_told compat own code c lent none same is test h = λ marked.
+      subst (λ d. (is_final v.version true d ≡ true) ⊎ (IsOfArithmetic v d ⊎ AreImages v compat (d ∷ []) (d ∷ []))) same
+      (elim (cases_Bool (has_hangul v.version && is_syllable code)) [
+        | inl on ↦ inr (inl on)
+        | inr plain ↦ inl (lent_unmapped v.version sound true code lent is plain none test h)
+      ])
+
   -- what has no mapping and is quiet
   plain_own : (compat : Bool) (c : ℕ) → is_quiet v.foldings c ≡ true → is_final v.version true c ≡ true → AreImages v compat (c ∷ []) (c ∷ [])
   plain_own compat c quiet final =

@@ -133,13 +133,16 @@ fn look_at<T: NormTable>(
 {
     table.meets_conditions();
     let code = char::from_u32(first)?;
+    if table.full(code, true).is_empty() {
+        return None;
+    }
     if is_unmarked(own.as_slice(), code) {
         return None;
     }
     if table.hangul() && is_syllable(first) {
         return None;
     }
-    if table.full(code, true).is_empty() || is_own(table, foldings, compat, code) {
+    if is_own(table, foldings, compat, code) {
         return None;
     }
     clear(own, code);

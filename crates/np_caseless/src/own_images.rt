@@ -18,6 +18,9 @@ use np_versions::NormTable;
 use std::alloc::Global;
 use std::slice;
 
+/// Nearly all images have no more bytes.
+const ROOM: usize = 8;
+
 /// The full decomposition of a code point that is no syllable of the arithmetic, lent.
 pub(crate) fn lent_full<'t, T: NormTable>(table: &'t T, compat: bool, code: &'t char) -> &'t [char]
     requires { (has_hangul (T.model table.now) && is_syllable code.now) ≡ false }
@@ -54,6 +57,17 @@ pub(crate) fn is_own<T: NormTable>(table: &T, foldings: &Foldings, compat: bool,
     table.class(code) == 0 && canonical == slice::from_ref(&code)
 }
 
+/// The text of an image. Its room is asked for at once.
+fn text_of_image(alloc: Global, image: &[char]) -> Result<String, Memory>
+    ensures { IfOk result (λ text. chars (string_bytes text) ≡ image.now) }
+{
+    let mut text = String::with_capacity(alloc, ROOM)?;
+    for code in image {
+        text.push(*code)?;
+    }
+    Ok(text)
+}
+
 /// Whether nothing that folds may change places on the way from a code point. Else no image of it is known.
 fn is_orderly<T: NormTable>(table: &T, foldings: &Foldings, compat: bool, code: char) -> bool {
     match known_full(table, false, &code) {
@@ -75,11 +89,11 @@ pub(crate) fn image_of<T: NormTable>(
 {
     table.meets_conditions();
     if let Some((images, _parts)) = folded_image(table, foldings, compat, &code) {
-        return Ok(Some(string_of(alloc, images)?));
+        return Ok(Some(text_of_image(alloc, images)?));
     }
     let likely = likely_image(alloc, table, foldings, compat, code)?;
     if quick_parts(table, foldings, compat, code, likely.as_slice()).is_some() {
-        return Ok(Some(string_of(alloc, likely.as_slice())?));
+        return Ok(Some(text_of_image(alloc, likely.as_slice())?));
     }
     if !is_orderly(table, foldings, compat, code) {
         return Ok(None);
