@@ -1,8 +1,9 @@
 -- Marks of code points that are their own images, and what the others are looked for by.
-use Rattle.std.proofs.Common.{◌≡◌, ◌≢◌, ◌⊎◌, ℕ, ◌+◌, ◌≤◌, ◌&&◌, Bool, true, false, eqb, List, [], ◌∷◌, length, flat_map, get_or, Some, None, refl, sym, ap, subst, ◌∙◌, inl, inr, arith}
+use Rattle.std.proofs.Common.{◌≡◌, ◌≢◌, ℕ, ◌+◌, ◌<◌, ◌≤◌, ◌&&◌, Bool, true, false, List, [], ◌∷◌, length, flat_map, get_or, Some, None, refl, sym, ap, subst, ◌∙◌, inl, inr, arith}
 use Rattle.std.specs.List.{list_all, slice_get}
 use Rattle.std.specs.Option.{option_map}
 use Rattle.std.proofs.lemmas.Bool.{and_from, and_parts, both_ways, cases_Bool}
+use Rattle.std.proofs.lemmas.Grind.{get_or_default_zero}
 use Rattle.np_code_points.specs.Hangul.{is_syllable}
 use Rattle.np_foldings.specs.Foldings.{Folding}
 use Rattle.np_code_points.specs.declared.forms.Form.TheVariants.{Nfkd}
@@ -13,18 +14,18 @@ use Rattle.np_forms.proofs.SyllableLemmas.{full_of-syllable}
 use Rattle.np_caseless.specs.Faults.{IsFoldedTooLong}
 use Rattle.np_ucd.specs.Entries.{Entry}
 use Rattle.np_versions.specs.Conditions.{IsSound}
-use Rattle.np_versions.specs.Mappings.{IsLent, is_final}
+use Rattle.np_versions.specs.Mappings.{is_final}
 use Rattle.np_versions.specs.Versions.{class_of, has_hangul, is_hangul}
 use Rattle.np_versions.specs.inside.FullDecompositions.{full_of}
 use Rattle.np_versions.proofs.HangulLemmas.{shape_of}
 use Rattle.np_versions.proofs.MappingLemmas.{full_of-final}
 use Rattle.np_caseless.specs.Folded.{FoldedVersion, is_quiet}
-use Rattle.np_caseless.specs.inside.FirstFaults.{Below, IsFoldingAt, IsOfArithmetic, IsRowAt, IsSyllableAt}
+use Rattle.np_caseless.specs.inside.FirstFaults.{AreMapped, Below, IsCodeAt, IsFoldingAt, IsOfArithmetic, IsRowAt, IsSyllableAt}
 use Rattle.np_caseless.specs.inside.Images.{AreImages}
 use Rattle.np_caseless.specs.inside.ImageTables.{IsCleared, IsLessMarked, IsTold}
 use Rattle.np_caseless.proofs.FineLemmas.{mapped_where, parts_all}
 use Rattle.np_caseless.proofs.FirstLemmas.{below_next}
-use Rattle.np_caseless.proofs.ImageLemmas.{images_caseless, lent_unmapped, own_of}
+use Rattle.np_caseless.proofs.ImageLemmas.{images_caseless, own_of}
 use Rattle.np_caseless.proofs.KeyLemmas.{caseless_is}
 use Rattle.np_caseless.proofs.ListedLemmas.{listed}
 use Rattle.np_caseless.proofs.QuietLemmas.{final_weaker}
@@ -72,26 +73,25 @@ less_more a b c first second = λ d marked. first d (second d marked)
 
 module _ (v : FoldedVersion) where
   -- of the rows
-  pub told_next : (compat : Bool) (at first : ℕ) (before after : List ℕ) → ((c : ℕ) → IsRowAt v.version.entries at c → c ≡ first) → IsLessMarked before after
-      → IsTold v compat after first → ((c : ℕ) → Below (IsRowAt v.version.entries) at c → IsTold v compat before c)
-      → (c : ℕ) → Below (IsRowAt v.version.entries) (at + 1) c → IsTold v compat after c
-  told_next compat at first before after only less here done c h =
-      elim (below_next (IsRowAt v.version.entries) at c h) [
+  pub told_next : (compat : Bool) (codes : List ℕ) (at x : ℕ) (before after : List ℕ) → at < length codes → x ≡ get_or codes at x → IsLessMarked before after
+      → IsTold v compat after x → ((c : ℕ) → Below (IsCodeAt codes) at c → IsTold v compat before c)
+      → (c : ℕ) → Below (IsCodeAt codes) (at + 1) c → IsTold v compat after c
+  told_next compat codes at x before after lt is less here done c h =
+      elim (below_next (IsCodeAt codes) at c h) [
         | inl earlier ↦ λ marked. done c earlier (less c marked)
-        | inr there ↦ subst (IsTold v compat after) (sym (only c there)) here
+        | inr there ↦ subst (IsTold v compat after) (is ∙ get_or_default_zero codes at x lt ∙ there) here
+      ]
+
+  pub told_rows : (compat : Bool) (codes own : List ℕ) → AreMapped v.version codes → ((c : ℕ) → Below (IsCodeAt codes) (length codes) c → IsTold v compat own c)
+      → (c : ℕ) → Below (IsRowAt v.version.entries) (length v.version.entries) c → IsTold v compat own c
+  told_rows compat codes own mapped told c row =
+      elim (mapped c row) [
+        | inl (inl final) ↦ λ marked. inl final
+        | inl (inr on) ↦ λ marked. inr (inl on)
+        | inr some ↦ told c some
       ]
 
 module _ (v : FoldedVersion) (sound : IsSound v.version) where
-  -- what a table lends nothing for has no mapping, or is a syllable of the arithmetic
-  pub unlent_told : (compat : Bool) (own : List ℕ) (code c : ℕ) (lent : List ℕ) (none : Bool) → code ≡ c → IsLent v.version true code lent → none ≡ eqb (length lent) 0 → none ≡ true
-      → IsTold v compat own c
-  unlent_told compat own code c lent none same is test h = λ marked.
-      subst (λ d. (is_final v.version true d ≡ true) ⊎ (IsOfArithmetic v d ⊎ AreImages v compat (d ∷ []) (d ∷ []))) same
-      (elim (cases_Bool (has_hangul v.version && is_syllable code)) [
-        | inl on ↦ inr (inl on)
-        | inr plain ↦ inl (lent_unmapped v.version sound true code lent is plain none test h)
-      ])
-
   -- what has no mapping and is quiet
   plain_own : (compat : Bool) (c : ℕ) → is_quiet v.foldings c ≡ true → is_final v.version true c ≡ true → AreImages v compat (c ∷ []) (c ∷ [])
   plain_own compat c quiet final =

@@ -16,6 +16,7 @@ pub mod LeastLemmas
 pub mod LengthLemmas
 pub mod LentLemmas
 pub mod ListedLemmas
+pub mod MappedLemmas
 pub mod QuietLemmas
 mod RunLemmas
 pub mod StabilityLemmas

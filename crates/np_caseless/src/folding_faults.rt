@@ -192,7 +192,7 @@ fn fault_of<T: NormTable>(
 }
 
 /// The fault of a code point that folds to itself alone, but for its lowercase. One that folds has none here.
-fn fault_of_quiet<T: NormTable>(
+pub(crate) fn quiet_fault<T: NormTable>(
     alloc: Global,
     table: &T,
     foldings: &Foldings,
@@ -209,26 +209,6 @@ fn fault_of_quiet<T: NormTable>(
         }));
     }
     Ok(None)
-}
-
-/// The fault of a code point that folds to itself alone, but for its lowercase. One that folds has none here.
-pub(crate) fn quiet_fault_at<T: NormTable>(
-    alloc: Global,
-    table: &T,
-    foldings: &Foldings,
-    code: u32,
-) -> Result<Option<ConditionFault>, Memory>
-    ensures { IfOk result (IsFirstOf (folded_by (T.model table.now) foldings.now) (IsQuietHere foldings.now code)) }
-{
-    table.meets_conditions();
-    foldings.are_in_order();
-    let Some(scalar) = char::from_u32(code) else {
-        return Ok(None);
-    };
-    if is_unmapped(table, scalar) {
-        return Ok(None);
-    }
-    fault_of_quiet(alloc, table, foldings, scalar)
 }
 
 /// The fault of a code point, but for its lowercase. A surrogate has none.

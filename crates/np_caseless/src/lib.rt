@@ -20,6 +20,7 @@ mod keys;
 pub mod laws;
 mod leasts;
 mod lent_parts;
+mod mapped_rows;
 mod not_folded;
 mod own_images;
 mod quick_images;

@@ -1,7 +1,7 @@
 use Rattle.std.proofs.Common.{◌∙◌, sym}
 use Rattle.np_caseless.specs.Folded.{folded_by}
 use Rattle.np_caseless.proofs.FirstLemmas.{first_folding}
-use Rattle.np_caseless.proofs.folding_faults.fault_of_quiet.Goals as goal
+use Rattle.np_caseless.proofs.folding_faults.quiet_fault.Goals as goal
 
 pub returns-then-not-is_quiet : goal.returns-then-not-is_quiet
 returns-then-not-is_quiet g c =
