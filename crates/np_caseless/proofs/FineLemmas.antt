@@ -2,7 +2,7 @@
 use Rattle.std.proofs.Common.{◌≡◌, ◌≢◌, ℕ, ◌≤◌, ◌⊎◌, ◌&&◌, Bool, true, false, eqb, List, [], ◌∷◌, length, flat_map, Option, Some, None, refl, sym, ap, subst, ◌∙◌, inl, inr, arith}
 use Rattle.std.specs.List.{list_all}
 use Rattle.std.specs.Option.{option_map}
-use Rattle.std.proofs.lemmas.Bool.{and_from, and_right, both_ways, cases_Bool, eqb-true}
+use Rattle.std.proofs.lemmas.Bool.{and_from, both_ways, cases_Bool, eqb-true}
 use Rattle.std.proofs.lemmas.List.{append-nil}
 use lib.Utf8.{scalar}
 use Rattle.np_code_points.specs.Hangul.{is_syllable}
@@ -40,9 +40,6 @@ lent_plain v c lent none sound is plain test h =
           let zero = eqb-true (length lent) 0 (sym test ∙ h) in
           absurd (omega (arith, ap length full, full_of-some v true c, zero))
     ]
-
-pub lent_final : (v : VersionData) (c : ℕ) (lent : List ℕ) (none : Bool) → IsSound v → IsLent v true c lent → is_syllable c ≡ false → none ≡ eqb (length lent) 0 → none ≡ true → is_final v true c ≡ true
-lent_final v c lent none sound is plain test h = lent_plain v c lent none sound is (and_right (has_hangul v) (is_syllable c) plain) test h
 
 -- What is quiet has none of the faults that only a code point that folds can have.
 not_again : (v : FoldedVersion) (c : ℕ) → is_quiet v.foldings c ≡ true → ¬ (IsFoldedAgain v c)

@@ -1,10 +1,9 @@
 //! The faults of one code point.
-ghost use Rattle.std.specs.Prelude.{◌≡◌, ◌↔◌, ◌∷◌, [], true, false, IfOk, IsTrue, MatchOption};
+ghost use Rattle.std.specs.Prelude.{◌≡◌, ◌↔◌, false, IfOk, IsTrue, MatchOption};
 ghost use Rattle.std.specs.List.{list_all};
 ghost use Rattle.np_caseless.specs.Faults.{IsFoldedTooLong};
 ghost use Rattle.np_caseless.specs.Folded.{folded_by, is_quiet as quiet};
 ghost use Rattle.np_caseless.specs.inside.FirstFaults.{FoldsWell, IsFaultAt, IsFine, IsFirstOf, IsQuietHere};
-ghost use Rattle.np_versions.specs.Mappings.{is_final};
 ghost use Rattle.np_versions.specs.Versions.{is_assigned};
 
 use crate::faults::ConditionFault;
@@ -144,25 +143,6 @@ fn is_too_long<T: NormTable>(
     Ok(codes.len() > MOST)
 }
 
-/// Whether a code point is known to have no mapping: so is nearly each one.
-fn is_unmapped<T: NormTable>(table: &T, code: char) -> bool
-    ensures { IsTrue result → is_final (T.model table.now) true code ≡ true }
-{
-    table.meets_conditions();
-    if is_syllable(u32::from(code)) {
-        return false;
-    }
-    table.full(code, true).is_empty()
-}
-
-/// Whether a code point is known to fold to itself alone and to have no mapping.
-fn is_plain<T: NormTable>(table: &T, foldings: &Foldings, code: char) -> bool
-    ensures quiet { IsTrue result → quiet foldings.now code ≡ true }
-    ensures unmapped { IsTrue result → is_final (T.model table.now) true code ≡ true }
-{
-    is_unmapped(table, code) && is_quiet(foldings, code)
-}
-
 /// The fault of a code point that is no surrogate, but for its lowercase.
 fn fault_of<T: NormTable>(
     alloc: Global,
@@ -174,10 +154,6 @@ fn fault_of<T: NormTable>(
         (IsFine (folded_by (T.model table.now) foldings.now) code)
         (IsFaultAt (folded_by (T.model table.now) foldings.now) code)) }
 {
-    table.meets_conditions();
-    if is_plain(table, foldings, code) {
-        return Ok(None);
-    }
     if !is_quiet(foldings, code) {
         if let Some(fault) = folding_fault(alloc, table, foldings, code)? {
             return Ok(Some(fault));

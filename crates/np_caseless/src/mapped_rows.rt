@@ -1,5 +1,5 @@
 //! The code points that have a mapping in the file. Most rows have none: so they are gone through once.
-ghost use Rattle.std.specs.Prelude.{◌≡◌, ◌&&◌, ◌⊎◌, true, IfNone, IfOk, IfSome};
+ghost use Rattle.std.specs.Prelude.{◌≡◌, IfNone, IfOk, IfSome};
 ghost use Rattle.np_caseless.specs.inside.FirstFaults.{AreMapped, HasNoMapping};
 
 use np_code_points::Memory;
