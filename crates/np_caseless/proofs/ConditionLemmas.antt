@@ -1,8 +1,9 @@
 -- What is asked of a code point that folds, and the conditions where there is no fault.
-use Rattle.std.proofs.Common.{◌≡◌, ◌↔◌, ℕ, ◌<◌, ◌≤◌, Bool, true, false, not, List, [], ◌∷◌, length, flat_map, refl, sym, ap, ◌∙◌, inl, inr, arith}
+use Rattle.std.proofs.Common.{◌≡◌, ◌↔◌, ℕ, ◌<◌, ◌≤◌, Bool, true, false, not, List, [], ◌∷◌, length, flat_map, refl, sym, ap, subst, ◌∙◌, inl, inr, arith}
 use Rattle.std.specs.Prelude.{IsTrue, bytes_eq}
 use Rattle.std.specs.List.{list_all}
 use Rattle.std.proofs.lemmas.Bool.{and_parts, both_ways, cases_Bool, cases_lt}
+use Rattle.std.proofs.lemmas.List.{append-nil}
 use Rattle.std.proofs.lemmas.Slice.Eq.{bytes_eq-Decides}
 use Rattle.np_code_points.specs.declared.forms.Form.TheVariants.{Nfkd}
 use Rattle.np_foldings.specs.Foldings.{AreFoldings}
@@ -36,6 +37,11 @@ final_told v compat c full sound is =
             | inr other ↦ other ∙ sym mapped
           ]
     ]
+
+pub final_known : (v : VersionData) (compat : Bool) (c : ℕ) → IsSound v → bytes_eq (full_of v compat c) (c ∷ []) ≡ is_final v compat c
+final_known v compat c sound =
+    final_told v compat c (full_of v compat c) sound
+    (subst (IsFullDecomposition v compat (c ∷ [])) (append-nil (full_of v compat c)) (IsFullDecomposition-flat_map v compat sound.shallow (c ∷ [])))
 
 -- ---- condition 3
 

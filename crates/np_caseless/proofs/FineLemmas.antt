@@ -1,8 +1,8 @@
 -- Code points that have no fault.
-use Rattle.std.proofs.Common.{◌≡◌, ◌≢◌, ℕ, ◌≤◌, ◌⊎◌, ◌&&◌, Bool, true, false, eqb, List, [], ◌∷◌, length, flat_map, Option, Some, None, refl, sym, ap, ◌∙◌, inl, inr, arith}
+use Rattle.std.proofs.Common.{◌≡◌, ◌≢◌, ℕ, ◌≤◌, ◌⊎◌, ◌&&◌, Bool, true, false, eqb, List, [], ◌∷◌, length, flat_map, Option, Some, None, refl, sym, ap, subst, ◌∙◌, inl, inr, arith}
 use Rattle.std.specs.List.{list_all}
 use Rattle.std.specs.Option.{option_map}
-use Rattle.std.proofs.lemmas.Bool.{and_from, and_right, both_ways, cases_Bool, eqb-true}
+use Rattle.std.proofs.lemmas.Bool.{and_from, both_ways, cases_Bool, eqb-true}
 use Rattle.std.proofs.lemmas.List.{append-nil}
 use lib.Utf8.{scalar}
 use Rattle.np_code_points.specs.Hangul.{is_syllable}
@@ -22,7 +22,7 @@ use Rattle.np_versions.proofs.MappingLemmas.{IsFullDecomposition-flat_map, full_
 use Rattle.np_versions.proofs.RowLemmas.{entry_at-row, entry_at-within, place_of_entry}
 use Rattle.np_caseless.specs.Faults.{IsFoldedAgain, IsFoldedTooLong}
 use Rattle.np_caseless.specs.Folded.{FoldedVersion, fold_all, is_quiet}
-use Rattle.np_caseless.specs.inside.FirstFaults.{Below, FoldsWell, IsFine, IsFoldingAt, IsOfArithmetic, IsRowAt}
+use Rattle.np_caseless.specs.inside.FirstFaults.{AreMapped, Below, FoldsWell, HasNoMapping, IsFine, IsFoldingAt, IsOfArithmetic, IsQuietCodeAt, IsRowAt}
 use Rattle.np_caseless.specs.inside.Keys.{caseless}
 use Rattle.np_caseless.proofs.KeyLemmas.{caseless_is}
 use Rattle.np_caseless.proofs.LengthLemmas.{full_of_more}
@@ -30,12 +30,13 @@ use Rattle.np_caseless.proofs.ListedLemmas.{listed, surrogate_quiet}
 use Rattle.np_caseless.proofs.QuietLemmas.{final_weaker, fold_all-quiet}
 
 -- What a table lends nothing for, and is no syllable, has no mapping.
-pub lent_final : (v : VersionData) (c : ℕ) (lent : List ℕ) (none : Bool) → IsSound v → IsLent v true c lent → is_syllable c ≡ false → none ≡ eqb (length lent) 0 → none ≡ true → is_final v true c ≡ true
-lent_final v c lent none sound is plain test h =
+lent_plain : (v : VersionData) (c : ℕ) (lent : List ℕ) (none : Bool) → IsSound v → IsLent v true c lent → (has_hangul v && is_syllable c) ≡ false → none ≡ eqb (length lent) 0 → none ≡ true
+    → is_final v true c ≡ true
+lent_plain v c lent none sound is plain test h =
     elim (cases_Bool (is_final v true c)) [
       | inl final ↦ final
       | inr counts ↦
-          let full = full_of-only v true sound.shallow c lent (is.full counts (and_right (has_hangul v) (is_syllable c) plain)) in
+          let full = full_of-only v true sound.shallow c lent (is.full counts plain) in
           let zero = eqb-true (length lent) 0 (sym test ∙ h) in
           absurd (omega (arith, ap length full, full_of-some v true c, zero))
     ]
@@ -177,14 +178,36 @@ module _ (v : FoldedVersion) (sound : IsSound v.version) where
   mapped_where c false off counts = inl (in_file c (λ none. mapped c counts (decomposition_mapping-off v.version c off ∙ none)))
 
   -- each code point is one of those that are looked at, or has no fault
-  pub looked_at : (c : ℕ) → (Below (IsFoldingAt v.foldings) (length v.foldings) c
-      ⊎ (Below (IsRowAt v.version.entries) (length v.version.entries) c ⊎ IsOfArithmetic v c)) ⊎ IsFine v c
-  looked_at c =
+  pub looked_at : (codes : List ℕ) → AreMapped v.version codes → (c : ℕ) → (Below (IsFoldingAt v.foldings) (length v.foldings) c
+      ⊎ (Below (IsQuietCodeAt v codes) (length codes) c ⊎ IsOfArithmetic v c)) ⊎ IsFine v c
+  looked_at codes are c =
       elim (cases_Bool (is_quiet v.foldings c)) [
         | inl quiet ↦
             elim (cases_Bool (is_final v.version true c)) [
               | inl final ↦ inr (plain_fine c quiet final)
-              | inr counts ↦ inl (inr (mapped_where c (has_hangul v.version && is_syllable c) refl counts))
+              | inr counts ↦
+                  elim (mapped_where c (has_hangul v.version && is_syllable c) refl counts) [
+                    | inl row ↦
+                        elim (are c row) [
+                          | inl (inl final) ↦ absurd (both_ways (is_final v.version true c) counts final)
+                          | inl (inr on) ↦ inl (inr (inr on))
+                          | inr some ↦ inl (inr (inl (some.0, some.1, (some.2, quiet))))
+                        ]
+                    | inr on ↦ inl (inr (inr on))
+                  ]
             ]
         | inr folds ↦ inl (inl (listed v.foldings c folds))
       ]
+
+-- what a table lends nothing for has no mapping but that of the arithmetic
+pub unlent_unmapped : (v : VersionData) → IsSound v → (code c : ℕ) (lent : List ℕ) (none : Bool) → code ≡ c → IsLent v true code lent → none ≡ eqb (length lent) 0 → none ≡ true
+    → HasNoMapping v c
+unlent_unmapped v sound code c lent none same is test h =
+    subst (HasNoMapping v) same
+    (elim (cases_Bool (has_hangul v && is_syllable code)) [
+      | inl on ↦ inr on
+      | inr plain ↦ inl (lent_plain v code lent none sound is plain test h)
+    ])
+
+pub surrogate_unmapped : (v : VersionData) → IsSound v → (c : ℕ) → ¬ (scalar c ≡ true) → HasNoMapping v c
+surrogate_unmapped v sound c none = inl (surrogate_final (record { version = v; foldings = [] }) sound c none)

@@ -1,21 +1,22 @@
 -- The first fault of several code points, and the one that is told.
-use Rattle.std.proofs.Common.{◌≡◌, ℕ, ◌+◌, ◌-◌, ◌<◌, ◌≤◌, ◌⊎◌, Bool, true, false, List, Option, Some, None, MatchOption, refl, sym, ap, subst, ◌∙◌, inl, inr, arith}
+use Rattle.std.proofs.Common.{◌≡◌, ℕ, ◌+◌, ◌-◌, ◌<◌, ◌≤◌, ◌⊎◌, Bool, true, false, List, length, get_or, Option, Some, None, MatchOption, refl, sym, ap, subst, ◌∙◌, inl, inr, arith}
 use Rattle.std.specs.Prelude.{nat_lt}
 use Rattle.std.specs.List.{slice_get}
 use Rattle.std.specs.Option.{option_map}
-use Rattle.std.proofs.lemmas.Bool.{cases_lt, cases_order, cond-true, cond-false, ltb-true, ltb-false}
+use Rattle.std.proofs.lemmas.Bool.{both_ways, cases_lt, cases_order, cond-true, cond-false, ltb-true, ltb-false}
+use Rattle.std.proofs.lemmas.Grind.{get_or_default_zero}
 use Rattle.np_code_points.specs.Hangul.{is_syllable}
 use Rattle.np_code_points.proofs.HangulLemmas.{among_bounds}
 use Rattle.np_foldings.specs.Foldings.{Folding}
 use Rattle.np_foldings.specs.declared.lowercases.Lowercase.{Lowercase}
-use Rattle.np_ucd.specs.Entries.{Entry}
 use Rattle.np_versions.specs.inside.FirstFaults.{IsFirst, IsLeastOf}
 use Rattle.np_caseless.specs.ConditionFaults.{HasFault, IsFaultless, IsLeastFault, number_of, place_of}
-use Rattle.np_caseless.specs.Faults.{IsNotFolded}
-use Rattle.np_caseless.specs.Folded.{FoldedVersion}
+use Rattle.np_caseless.specs.Faults.{IsFoldedTooLong, IsNotFolded}
+use Rattle.np_caseless.specs.Folded.{FoldedVersion, is_quiet}
 use Rattle.np_caseless.specs.declared.faults.ConditionFault.{ConditionFault}
 use Rattle.np_caseless.specs.declared.faults.ConditionFault.TheVariants.{FoldsUnassigned, FoldsToUnassigned, FoldsAgain, FoldedTooLong, NotFolded, Memory}
-use Rattle.np_caseless.specs.inside.FirstFaults.{Below, FoldsWell, IsFaultAt, IsFine, IsFirstFault, IsFirstOf, IsFoldingAt, IsRowAt, IsSyllableAt, sooner}
+use Rattle.np_caseless.proofs.FineLemmas.{quiet_well}
+use Rattle.np_caseless.specs.inside.FirstFaults.{Below, FoldsWell, IsFaultAt, IsFine, IsFirstFault, IsFirstOf, IsFoldingAt, IsQuietCodeAt, IsQuietHere, IsSyllableAt, sooner}
 
 -- ---- places
 
@@ -93,7 +94,7 @@ module _ (v : FoldedVersion) where
   pub one_more : (At : ℕ → ℕ → Type 0) (i : ℕ) (o p : Option ConditionFault) → IsFirstOf v (Below At i) o → IsFirstOf v (At i) p → IsFirstOf v (Below At (i + 1)) (sooner o p)
   one_more At i o p h k = of_both (Below At i) (At i) (Below At (i + 1)) o p (below_next At i) h k
 
-  -- at a place of the foldings and of the rows
+  -- at a place of the foldings and of the code points that have a mapping
   same_some : (c d : ℕ) → Some c ≡ Some d → d ≡ c
   same_some c d e = cc
 
@@ -105,10 +106,27 @@ module _ (v : FoldedVersion) where
   pub of_no_folding : (k : ℕ) → slice_get v.foldings k ≡ None → IsFirstOf v (IsFoldingAt v.foldings k) None
   of_no_folding k none = λ c is. absurd (let e = ap (option_map (λ (x : Folding). x.code)) none in cc)
 
-  pub of_row : (k : ℕ) (e : Entry) (o : Option ConditionFault) → slice_get v.version.entries k ≡ Some e → IsFirstOf v (λ d. d ≡ e.first) o → IsFirstOf v (IsRowAt v.version.entries k) o
-  of_row k e o at h =
-      of_fewer (λ d. d ≡ e.first) (IsRowAt v.version.entries k) o
-      (λ c is. same_some e.first c (sym (ap (option_map (λ (x : Entry). x.first)) at) ∙ is)) h
+  pub of_quiet_code : (codes : List ℕ) (k x : ℕ) (o : Option ConditionFault) → k < length codes → x ≡ get_or codes k x → IsFirstOf v (IsQuietHere v.foldings x) o
+      → IsFirstOf v (IsQuietCodeAt v codes k) o
+  of_quiet_code codes k x o lt here h =
+      of_fewer (IsQuietHere v.foldings x) (IsQuietCodeAt v codes k) o (λ c is. (sym is.0 ∙ sym (here ∙ get_or_default_zero codes k x lt), is.1)) h
+
+  -- of a code point, where it folds to itself alone
+  pub first_folding : (c : ℕ) → is_quiet v.foldings c ≡ false → IsFirstOf v (IsQuietHere v.foldings c) None
+  first_folding c folds = λ d here. absurd (both_ways (is_quiet v.foldings c) folds (subst (λ e. is_quiet v.foldings e ≡ true) here.0 here.1))
+
+  pub first_long : (c code : ℕ) → code ≡ c → is_quiet v.foldings c ≡ true → IsFoldedTooLong v c → IsFirstOf v (IsQuietHere v.foldings c) (Some (FoldedTooLong code))
+  first_long c code is quiet long =
+      record {
+        at = (refl, subst (IsFoldedTooLong v) (sym is) long, subst (FoldsWell v) (sym is) (quiet_well v c quiet));
+        before = λ d here lt. absurd (omega (arith, here.0, is, lt));
+      }
+
+  pub first_short : (c : ℕ) → is_quiet v.foldings c ≡ true → ¬ (IsFoldedTooLong v c) → IsFirstOf v (IsQuietHere v.foldings c) None
+  first_short c quiet short = λ d here. subst (IsFine v) (sym here.0) (record { folds = quiet_well v c quiet; short = short })
+
+  pub first_fine : (c : ℕ) → (is_quiet v.foldings c ≡ true → IsFine v c) → IsFirstOf v (IsQuietHere v.foldings c) None
+  first_fine c fine = λ d here. subst (IsFine v) (sym here.0) (fine (subst (λ e. is_quiet v.foldings e ≡ true) here.0 here.1))
 
   -- of three, where the others have none
   among_three : (S T U : ℕ → Type 0) (c : ℕ) → S c ⊎ (T c ⊎ U c) → (S c ⊎ T c) ⊎ U c

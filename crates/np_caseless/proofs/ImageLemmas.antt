@@ -261,7 +261,7 @@ module _ (v : FoldedVersion) (sound : IsSound v.version) where
       parts_of_folding v compat c (c ∷ []) (sym (quiet_folds v.foldings c h)) ∙ append-nil (full_of v.version compat c)
 
   -- what is quiet and without a mapping stays
-  alone_all : (compat : Bool) (ds : List ℕ) → list_all quiet ds ≡ true → list_all (is_final v.version compat) ds ≡ true
+  pub alone_all : (compat : Bool) (ds : List ℕ) → list_all quiet ds ≡ true → list_all (is_final v.version compat) ds ≡ true
       → (list_all (stays v compat) ds ≡ true) × (ds ≡ flat_map (folded_parts v compat) ds)
   alone_all compat [] quiets finals = (refl, refl)
   alone_all compat (d ∷ ds) quiets finals =

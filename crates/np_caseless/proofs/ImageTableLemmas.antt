@@ -1,24 +1,26 @@
 -- Marks of code points that are their own images, and what the others are looked for by.
-use Rattle.std.proofs.Common.{◌≡◌, ◌≢◌, ℕ, ◌+◌, ◌&&◌, Bool, true, false, List, [], ◌∷◌, length, get_or, Some, None, refl, sym, ap, subst, ◌∙◌, inl, inr, arith}
+use Rattle.std.proofs.Common.{◌≡◌, ◌≢◌, ℕ, ◌+◌, ◌<◌, ◌≤◌, ◌&&◌, Bool, true, false, List, [], ◌∷◌, length, flat_map, get_or, Some, None, refl, sym, ap, subst, ◌∙◌, inl, inr, arith}
 use Rattle.std.specs.List.{list_all, slice_get}
 use Rattle.std.specs.Option.{option_map}
 use Rattle.std.proofs.lemmas.Bool.{and_from, and_parts, both_ways, cases_Bool}
+use Rattle.std.proofs.lemmas.Grind.{get_or_default_zero}
 use Rattle.np_code_points.specs.Hangul.{is_syllable}
 use Rattle.np_foldings.specs.Foldings.{Folding}
 use Rattle.np_code_points.specs.declared.forms.Form.TheVariants.{Nfkd}
-use Rattle.np_forms.specs.inside.NormalForms.{normal_form}
+use Rattle.np_forms.specs.inside.NormalForms.{decomposed, normal_form}
 use Rattle.np_forms.proofs.FormLemmas.{IsNormalForm-normal_form, length-normal_form}
+use Rattle.np_forms.proofs.OrderLemmas.{length-canonical_order}
 use Rattle.np_forms.proofs.SyllableLemmas.{full_of-syllable}
 use Rattle.np_caseless.specs.Faults.{IsFoldedTooLong}
 use Rattle.np_ucd.specs.Entries.{Entry}
 use Rattle.np_versions.specs.Conditions.{IsSound}
 use Rattle.np_versions.specs.Mappings.{is_final}
-use Rattle.np_versions.specs.Versions.{has_hangul, is_hangul}
+use Rattle.np_versions.specs.Versions.{class_of, has_hangul, is_hangul}
 use Rattle.np_versions.specs.inside.FullDecompositions.{full_of}
 use Rattle.np_versions.proofs.HangulLemmas.{shape_of}
 use Rattle.np_versions.proofs.MappingLemmas.{full_of-final}
 use Rattle.np_caseless.specs.Folded.{FoldedVersion, is_quiet}
-use Rattle.np_caseless.specs.inside.FirstFaults.{Below, IsFoldingAt, IsOfArithmetic, IsRowAt, IsSyllableAt}
+use Rattle.np_caseless.specs.inside.FirstFaults.{AreMapped, Below, IsCodeAt, IsFoldingAt, IsOfArithmetic, IsRowAt, IsSyllableAt}
 use Rattle.np_caseless.specs.inside.Images.{AreImages}
 use Rattle.np_caseless.specs.inside.ImageTables.{IsCleared, IsLessMarked, IsTold}
 use Rattle.np_caseless.proofs.FineLemmas.{mapped_where, parts_all}
@@ -71,13 +73,22 @@ less_more a b c first second = λ d marked. first d (second d marked)
 
 module _ (v : FoldedVersion) where
   -- of the rows
-  pub told_next : (compat : Bool) (at first : ℕ) (before after : List ℕ) → ((c : ℕ) → IsRowAt v.version.entries at c → c ≡ first) → IsLessMarked before after
-      → IsTold v compat after first → ((c : ℕ) → Below (IsRowAt v.version.entries) at c → IsTold v compat before c)
-      → (c : ℕ) → Below (IsRowAt v.version.entries) (at + 1) c → IsTold v compat after c
-  told_next compat at first before after only less here done c h =
-      elim (below_next (IsRowAt v.version.entries) at c h) [
+  pub told_next : (compat : Bool) (codes : List ℕ) (at x : ℕ) (before after : List ℕ) → at < length codes → x ≡ get_or codes at x → IsLessMarked before after
+      → IsTold v compat after x → ((c : ℕ) → Below (IsCodeAt codes) at c → IsTold v compat before c)
+      → (c : ℕ) → Below (IsCodeAt codes) (at + 1) c → IsTold v compat after c
+  told_next compat codes at x before after lt is less here done c h =
+      elim (below_next (IsCodeAt codes) at c h) [
         | inl earlier ↦ λ marked. done c earlier (less c marked)
-        | inr there ↦ subst (IsTold v compat after) (sym (only c there)) here
+        | inr there ↦ subst (IsTold v compat after) (is ∙ get_or_default_zero codes at x lt ∙ there) here
+      ]
+
+  pub told_rows : (compat : Bool) (codes own : List ℕ) → AreMapped v.version codes → ((c : ℕ) → Below (IsCodeAt codes) (length codes) c → IsTold v compat own c)
+      → (c : ℕ) → Below (IsRowAt v.version.entries) (length v.version.entries) c → IsTold v compat own c
+  told_rows compat codes own mapped told c row =
+      elim (mapped c row) [
+        | inl (inl final) ↦ λ marked. inl final
+        | inl (inr on) ↦ λ marked. inr (inl on)
+        | inr some ↦ told c some
       ]
 
 module _ (v : FoldedVersion) (sound : IsSound v.version) where
@@ -96,6 +107,16 @@ module _ (v : FoldedVersion) (sound : IsSound v.version) where
       let few =
       length-normal_form v.version sound Nfkd (c ∷ []) (normal_form v.version Nfkd (c ∷ [])) (IsNormalForm-normal_form v.version sound Nfkd (c ∷ [])) in
       omega (arith, ap length is, few, long.long)
+
+  -- a code point whose images decompose to few code points
+  pub short_image : (c count : ℕ) (ys parts : List ℕ) → AreImages v true (c ∷ []) ys → parts ≡ flat_map (full_of v.version true) ys → count ≡ length parts → count ≤ 64
+      → ¬ (IsFoldedTooLong v c)
+  unfolding normal_form decomposed
+  short_image c count ys parts images is counted few long =
+      let same = caseless_is v sound Nfkd (c ∷ []) long.list long.caseless ∙ images_caseless v Nfkd (c ∷ []) ys images in
+      let all : length (normal_form v.version Nfkd ys) ≡ length parts =
+      length-canonical_order (class_of v.version) (flat_map (full_of v.version true) ys) ∙ ap length (sym is) in
+      omega (arith, ap length same, all, counted, few, long.long)
 
   -- a syllable of the arithmetic, where no Hangul folds
   pub syllable_own : has_hangul v.version ≡ true → ((c : ℕ) → is_hangul c ≡ true → is_quiet v.foldings c ≡ true) → (compat : Bool) (s : ℕ) → is_syllable s ≡ true

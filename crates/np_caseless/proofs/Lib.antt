@@ -14,7 +14,9 @@ pub mod ImageTableLemmas
 pub mod KeyLemmas
 pub mod LeastLemmas
 pub mod LengthLemmas
+pub mod LentLemmas
 pub mod ListedLemmas
+pub mod MappedLemmas
 pub mod QuietLemmas
 mod RunLemmas
 pub mod StabilityLemmas

@@ -1,12 +1,12 @@
 //! The fault that is told of a version with its foldings. Only what folds or has a mapping can have one: so what is listed to
-//! fold, the rows and the syllables are looked at, and not each code point.
-ghost use Rattle.std.specs.Prelude.{◌≡◌, ◌<◌, ℕ, length, IfOk, MatchOption};
+//! fold, what has a mapping in the file and the syllables are looked at, and not each code point.
+ghost use Rattle.std.specs.Prelude.{◌≡◌, ℕ, length, IfOk, MatchOption};
 ghost use Rattle.np_caseless.specs.ConditionFaults.{IsFaultless, IsLeastFault};
 ghost use Rattle.np_caseless.specs.Folded.{folded_by};
-ghost use Rattle.np_caseless.specs.inside.FirstFaults.{Below, IsFirstOf, IsFoldingAt, IsOfArithmetic, IsRowAt, lowercase_fault};
+ghost use Rattle.np_caseless.specs.inside.FirstFaults.{AreMapped, Below, IsFirstOf, IsFoldingAt, IsOfArithmetic, IsQuietCodeAt, lowercase_fault};
 
 use crate::faults::{ConditionFault, sooner};
-use crate::folding_faults::fault_at;
+use crate::folding_faults::{fault_at, quiet_fault};
 use crate::not_folded::first_not_folded;
 use crate::quiet::code_at;
 use crate::quiet_hangul::is_hangul_quiet;
@@ -47,32 +47,19 @@ fn first_of_foldings<T: NormTable>(
     Ok(first)
 }
 
-/// The fault of the first code point of a row.
-fn fault_of_row<T: NormTable>(
+/// The first fault of the code points that have a mapping in the file. What folds was looked at before.
+fn first_of_mapped<T: NormTable>(
     alloc: Global,
     table: &T,
     foldings: &Foldings,
-    at: usize,
-) -> Result<Option<ConditionFault>, Memory>
-    requires { at < length (T.model table.now).entries }
-    ensures { IfOk result (IsFirstOf (folded_by (T.model table.now) foldings.now) (IsRowAt (T.model table.now).entries at)) }
-{
-    let row = table.version().row_in(at);
-    fault_at(alloc, table, foldings, row.first)
-}
-
-/// The first fault of the first code points of the rows, among which are all that have a mapping in the file.
-fn first_of_rows<T: NormTable>(
-    alloc: Global,
-    table: &T,
-    foldings: &Foldings,
+    mapped: &[char],
 ) -> Result<Option<ConditionFault>, Memory>
     ensures { IfOk result (IsFirstOf (folded_by (T.model table.now) foldings.now)
-        (Below (IsRowAt (T.model table.now).entries) (length (T.model table.now).entries))) }
+        (Below (IsQuietCodeAt (folded_by (T.model table.now) foldings.now) mapped.now) (length mapped.now))) }
 {
     let mut first: Option<ConditionFault> = None;
-    for at in 0..table.version().row_count() {
-        let fault = fault_of_row(alloc, table, foldings, at)?;
+    for code in mapped {
+        let fault = quiet_fault(alloc, table, foldings, *code)?;
         first = sooner(first, fault);
     }
     Ok(first)
@@ -98,18 +85,20 @@ fn first_of_syllables<T: NormTable>(
     Ok(first)
 }
 
-/// The first fault, but for those of lowercases.
+/// The first fault, but for those of lowercases, where all code points that have a mapping in the file are listed.
 fn first_of_all<T: NormTable>(
     alloc: Global,
     table: &T,
     foldings: &Foldings,
+    mapped: &[char],
 ) -> Result<Option<ConditionFault>, Memory>
-    ensures { IfOk result (IsFirstOf (folded_by (T.model table.now) foldings.now) (λ (c : ℕ). Unit {0})) }
+    ensures { IfOk result (λ fault. AreMapped (T.model table.now) mapped.now
+        → IsFirstOf (folded_by (T.model table.now) foldings.now) (λ (c : ℕ). Unit {0}) fault) }
 {
     table.meets_conditions();
     foldings.are_in_order();
     let of_foldings = first_of_foldings(alloc, table, foldings)?;
-    let of_rows = first_of_rows(alloc, table, foldings)?;
+    let of_rows = first_of_mapped(alloc, table, foldings, mapped)?;
     let of_syllables = first_of_syllables(alloc, table, foldings)?;
     Ok(sooner(sooner(of_foldings, of_rows), of_syllables))
 }
@@ -124,18 +113,20 @@ fn of_lowercase(not_folded: Option<u32>) -> Option<ConditionFault>
     }
 }
 
-/// The fault at the least code point, and of those there the one with the least number.
+/// The fault at the least code point, and of those there the one with the least number, where all code points that have a mapping
+/// in the file are listed.
 pub(crate) fn first_fault<T: NormTable>(
     alloc: Global,
     table: &T,
     foldings: &Foldings,
     lowercases: &[Lowercase],
+    mapped: &[char],
 ) -> Result<Option<ConditionFault>, Memory>
-    ensures { IfOk result (λ fault. MatchOption fault
+    ensures { IfOk result (λ fault. AreMapped (T.model table.now) mapped.now → MatchOption fault
         (IsFaultless (folded_by (T.model table.now) foldings.now) lowercases.now)
         (IsLeastFault (folded_by (T.model table.now) foldings.now) lowercases.now)) }
 {
-    let fault = first_of_all(alloc, table, foldings)?;
+    let fault = first_of_all(alloc, table, foldings, mapped)?;
     let not_folded = first_not_folded(table.version(), foldings, lowercases);
     Ok(sooner(fault, of_lowercase(not_folded)))
 }

@@ -6,6 +6,7 @@ ghost use Rattle.np_caseless.specs.Folded.{folded_by, is_quiet as quiet};
 ghost use Rattle.np_versions.specs.Mappings.{is_final as final};
 ghost use Rattle.np_versions.specs.inside.FullDecompositions.{full_of};
 
+use crate::lent_parts::known_full;
 use crate::quiet::{are_quiet, folding_of};
 use np_code_points::Memory;
 use np_foldings::Foldings;
@@ -24,6 +25,9 @@ fn is_final<T: NormTable>(
     ensures { IfOk result (λ is. is ≡ final (T.model table.now) compat code) }
 {
     table.meets_conditions();
+    if let Some(full) = known_full(table, compat, &code) {
+        return Ok(full == slice::from_ref(&code));
+    }
     let full = full_decomposition(alloc, table, compat, code)?;
     Ok(full.as_slice() == slice::from_ref(&code))
 }
@@ -39,6 +43,9 @@ fn parts_are_quiet<T: NormTable>(
     ensures { IfOk result (λ are. are ≡ list_all (quiet foldings.now) (full_of (T.model table.now) compat code)) }
 {
     table.meets_conditions();
+    if let Some(full) = known_full(table, compat, &code) {
+        return Ok(are_quiet(foldings, full));
+    }
     let full = full_decomposition(alloc, table, compat, code)?;
     Ok(are_quiet(foldings, full.as_slice()))
 }

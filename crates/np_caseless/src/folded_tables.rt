@@ -4,6 +4,7 @@ ghost use Rattle.np_caseless.specs.Conditions.{IsSoundFolding};
 ghost use Rattle.np_caseless.specs.ConditionFaults.{IsFaultless, IsLeastFault};
 ghost use Rattle.np_caseless.specs.Folded.{folded_by};
 ghost use Rattle.np_caseless.specs.inside.AsciiFoldings.{FoldsAscii};
+ghost use Rattle.np_caseless.specs.inside.FirstFaults.{AreMapped};
 ghost use Rattle.np_caseless.specs.inside.ImageTables.{AreAllImages};
 ghost use Rattle.np_caseless.specs.declared.faults.ConditionFault.TheVariants.{Memory as OutOfMemory};
 
@@ -11,6 +12,7 @@ use crate::ascii::ascii_foldings;
 use crate::faults::ConditionFault;
 use crate::first_faults::first_fault;
 use crate::image_tables::Images;
+use crate::mapped_rows::mapped_codes;
 use np_foldings::{Foldings, Lowercase};
 use np_versions::NormTable;
 use std::alloc::Global;
@@ -44,19 +46,21 @@ impl<T: NormTable + Drop> Model for FoldedTable<T> {
         × IfSome a.ascii (λ bytes. FoldsAscii (folded_by (T.model a.table) a.foldings) bytes.items) };
 }
 
-/// Tells the fault at the least code point, where there is one.
+/// Tells the fault at the least code point, where there is one, else the code points that have a mapping in the file.
 fn judge<T: NormTable>(
     alloc: Global,
     table: &T,
     foldings: &Foldings,
     lowercases: &[Lowercase],
-) -> Result<(), ConditionFault>
+) -> Result<Vec<char>, ConditionFault>
+    ensures mapped { IfOk result (λ codes. AreMapped (T.model table.now) codes.items) }
     ensures faultless { OnOk result (IsFaultless (folded_by (T.model table.now) foldings.now) lowercases.now) }
     ensures fault { IfErr result (λ f. (f ≡ OutOfMemory) ⊎ IsLeastFault (folded_by (T.model table.now) foldings.now) lowercases.now f) }
 {
-    match first_fault(alloc, table, foldings, lowercases)? {
+    let mapped = mapped_codes(alloc, table)?;
+    match first_fault(alloc, table, foldings, lowercases, mapped.as_slice())? {
         Some(fault) => Err(fault),
-        None => Ok(()),
+        None => Ok(mapped),
     }
 }
 
@@ -78,11 +82,12 @@ impl<T: NormTable + Drop> FoldedTable<T> {
         ensures faultless { OnOk result (IsFaultless (folded_by (T.model table) foldings) lowercases.now) }
         ensures fault { IfErr result (λ f. (f ≡ OutOfMemory) ⊎ IsLeastFault (folded_by (T.model table) foldings) lowercases.now f) }
     {
-        judge(alloc, &table, &foldings, lowercases)?;
+        let mapped = judge(alloc, &table, &foldings, lowercases)?;
+        let codes = mapped.as_slice();
         table.meets_conditions();
         foldings.are_in_order();
-        let canonical = Images::build(alloc, &table, &foldings, false)?;
-        let compatible = Images::build(alloc, &table, &foldings, true)?;
+        let canonical = Images::build(alloc, &table, &foldings, false, codes)?;
+        let compatible = Images::build(alloc, &table, &foldings, true, codes)?;
         let ascii = ascii_foldings(alloc, &table, &foldings)?;
         Ok(FoldedTable {
             table,

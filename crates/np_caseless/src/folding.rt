@@ -8,7 +8,11 @@ use np_foldings::Foldings;
 use std::alloc::Global;
 
 /// The foldings of code points, one behind the other.
-fn fold_chars(alloc: Global, foldings: &Foldings, chars: &[char]) -> Result<Vec<char>, Memory>
+pub(crate) fn fold_chars(
+    alloc: Global,
+    foldings: &Foldings,
+    chars: &[char],
+) -> Result<Vec<char>, Memory>
     ensures { IfOk result (λ folded. folded.items ≡ fold_all foldings.now chars.now) }
 {
     let mut folded = Vec::with_capacity(alloc, chars.len())?;

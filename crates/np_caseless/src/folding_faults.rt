@@ -1,16 +1,16 @@
 //! The faults of one code point.
-ghost use Rattle.std.specs.Prelude.{◌≡◌, ◌↔◌, ◌∷◌, [], true, false, IfOk, IsTrue, MatchOption};
+ghost use Rattle.std.specs.Prelude.{◌≡◌, ◌↔◌, false, IfOk, IsTrue, MatchOption};
 ghost use Rattle.std.specs.List.{list_all};
 ghost use Rattle.np_caseless.specs.Faults.{IsFoldedTooLong};
 ghost use Rattle.np_caseless.specs.Folded.{folded_by, is_quiet as quiet};
-ghost use Rattle.np_caseless.specs.inside.FirstFaults.{FoldsWell, IsFaultAt, IsFine};
-ghost use Rattle.np_versions.specs.Mappings.{is_final};
+ghost use Rattle.np_caseless.specs.inside.FirstFaults.{FoldsWell, IsFaultAt, IsFine, IsFirstOf, IsQuietHere};
 ghost use Rattle.np_versions.specs.Versions.{is_assigned};
 
 use crate::faults::ConditionFault;
 use crate::folded_again::folds_again;
 use crate::keys::caseless_form;
 use crate::own_images::is_own;
+use crate::quick_images::{folded_image, likely_image, quick_parts};
 use crate::quiet::{folding_of, is_quiet};
 use np_code_points::hangul::is_syllable;
 use np_code_points::text::{chars_of, string_of};
@@ -61,7 +61,7 @@ fn folding_fault<T: NormTable>(
 }
 
 /// Whether the caseless NFKD form of a code point is known not to be too long, since it is its NFKD form.
-fn is_known_short<T: NormTable>(table: &T, foldings: &Foldings, code: char) -> bool
+fn is_own_short<T: NormTable>(table: &T, foldings: &Foldings, code: char) -> bool
     ensures { IsTrue result → ¬ (IsFoldedTooLong (folded_by (T.model table.now) foldings.now) code) }
 {
     table.meets_conditions();
@@ -69,6 +69,59 @@ fn is_known_short<T: NormTable>(table: &T, foldings: &Foldings, code: char) -> b
         return false;
     }
     is_own(table, foldings, true, code)
+}
+
+/// Whether what a code point folds to is known to stand in its place, and its caseless NFKD form is then not too long.
+fn is_folded_short<T: NormTable>(table: &T, foldings: &Foldings, code: char) -> bool
+    ensures { IsTrue result → ¬ (IsFoldedTooLong (folded_by (T.model table.now) foldings.now) code) }
+{
+    table.meets_conditions();
+    match folded_image(table, foldings, true, &code) {
+        Some((_images, parts)) => parts.len() <= MOST,
+        None => false,
+    }
+}
+
+/// Whether code points are known to stand in place of one, whose caseless NFKD form is then not too long.
+fn is_short_by<T: NormTable>(table: &T, foldings: &Foldings, code: char, images: &[char]) -> bool
+    ensures { IsTrue result → ¬ (IsFoldedTooLong (folded_by (T.model table.now) foldings.now) code) }
+{
+    table.meets_conditions();
+    match quick_parts(table, foldings, true, code, images) {
+        Some(parts) => parts.len() <= MOST,
+        None => false,
+    }
+}
+
+/// Whether the caseless NFKD form of a code point is known not to be too long, since it is the NFKD form of its image.
+fn is_image_short<T: NormTable>(
+    alloc: Global,
+    table: &T,
+    foldings: &Foldings,
+    code: char,
+) -> Result<bool, Memory>
+    ensures { IfOk result (λ is. IsTrue is → ¬ (IsFoldedTooLong (folded_by (T.model table.now) foldings.now) code)) }
+{
+    let likely = likely_image(alloc, table, foldings, true, code)?;
+    Ok(is_short_by(table, foldings, code, likely.as_slice()))
+}
+
+/// Whether the caseless NFKD form of a code point is known not to be too long.
+fn is_known_short<T: NormTable>(
+    alloc: Global,
+    table: &T,
+    foldings: &Foldings,
+    code: char,
+) -> Result<bool, Memory>
+    ensures { IfOk result (λ is. IsTrue is → ¬ (IsFoldedTooLong (folded_by (T.model table.now) foldings.now) code)) }
+{
+    if !is_quiet(foldings, code) {
+        return Ok(is_folded_short(table, foldings, code));
+    }
+    if is_own_short(table, foldings, code) {
+        return Ok(true);
+    }
+    is_image_short(alloc, table, foldings, code)
 }
 
 /// Whether the caseless NFKD form of a code point is too long.
@@ -81,25 +134,13 @@ fn is_too_long<T: NormTable>(
     ensures { IfOk result (λ long. IsTrue long ↔ IsFoldedTooLong (folded_by (T.model table.now) foldings.now) code) }
 {
     table.meets_conditions();
-    if is_known_short(table, foldings, code) {
+    if is_known_short(alloc, table, foldings, code)? {
         return Ok(false);
     }
     let text = string_of(alloc, slice::from_ref(&code))?;
     let form = caseless_form(alloc, table, foldings, Form::Nfkd, text.as_str())?;
     let codes = chars_of(alloc, form.as_str())?;
     Ok(codes.len() > MOST)
-}
-
-/// Whether a code point is known to fold to itself alone and to have no mapping: so is nearly each one.
-fn is_plain<T: NormTable>(table: &T, foldings: &Foldings, code: char) -> bool
-    ensures quiet { IsTrue result → quiet foldings.now code ≡ true }
-    ensures unmapped { IsTrue result → is_final (T.model table.now) true code ≡ true }
-{
-    table.meets_conditions();
-    if is_syllable(u32::from(code)) {
-        return false;
-    }
-    table.full(code, true).is_empty() && is_quiet(foldings, code)
 }
 
 /// The fault of a code point that is no surrogate, but for its lowercase.
@@ -113,14 +154,30 @@ fn fault_of<T: NormTable>(
         (IsFine (folded_by (T.model table.now) foldings.now) code)
         (IsFaultAt (folded_by (T.model table.now) foldings.now) code)) }
 {
-    table.meets_conditions();
-    if is_plain(table, foldings, code) {
-        return Ok(None);
-    }
     if !is_quiet(foldings, code) {
         if let Some(fault) = folding_fault(alloc, table, foldings, code)? {
             return Ok(Some(fault));
         }
+    }
+    if is_too_long(alloc, table, foldings, code)? {
+        return Ok(Some(ConditionFault::FoldedTooLong {
+            code: u32::from(code),
+        }));
+    }
+    Ok(None)
+}
+
+/// The fault of a code point that folds to itself alone, but for its lowercase. One that folds has none here.
+pub(crate) fn quiet_fault<T: NormTable>(
+    alloc: Global,
+    table: &T,
+    foldings: &Foldings,
+    code: char,
+) -> Result<Option<ConditionFault>, Memory>
+    ensures { IfOk result (IsFirstOf (folded_by (T.model table.now) foldings.now) (IsQuietHere foldings.now code)) }
+{
+    if !is_quiet(foldings, code) {
+        return Ok(None);
     }
     if is_too_long(alloc, table, foldings, code)? {
         return Ok(Some(ConditionFault::FoldedTooLong {

@@ -1,7 +1,7 @@
 //! The images of all code points of a version with its foldings.
-ghost use Rattle.std.specs.Prelude.{◌≡◌, ◌≢◌, ℕ, Bool, ◌∷◌, [], get_or, length, option_map, slice_get, IfOk, IfSome, OnOk};
+ghost use Rattle.std.specs.Prelude.{◌≡◌, ◌≢◌, ℕ, Bool, ◌∷◌, [], get_or, length, option_map, slice_get, IfOk, IfSome, IsTrue, OnOk};
 ghost use Rattle.np_caseless.specs.Folded.{folded_by};
-ghost use Rattle.np_caseless.specs.inside.FirstFaults.{Below, IsFoldingAt, IsOfArithmetic, IsRowAt};
+ghost use Rattle.np_caseless.specs.inside.FirstFaults.{AreMapped, Below, IsCodeAt, IsFoldingAt, IsOfArithmetic};
 ghost use Rattle.np_caseless.specs.inside.Images.{AreImages};
 ghost use Rattle.np_caseless.specs.inside.ImageTables.{AreAllImages, AreKnown, IsCleared, IsKnown, IsLessMarked, IsTold};
 
@@ -109,47 +109,60 @@ fn clear_syllables<T: NormTable>(table: &T, foldings: &Foldings, own: &mut Vec<u
     }
 }
 
-/// Looks at the first code point of a row. Where it isn't known to be its own image it is cleared and answered.
+/// Whether a code point isn't marked as its own image.
+fn is_unmarked(own: &[u8], code: char) -> bool
+    ensures { IsTrue result → get_or own.now code 0 ≢ 1 }
+{
+    match own.get(u32::from(code) as usize) {
+        Some(mark) => *mark != 1,
+        None => true,
+    }
+}
+
+/// Looks at a code point that has a mapping. Where it isn't known to be its own image it is cleared, unless it was before: only
+/// then the answer is `true`.
 fn look_at<T: NormTable>(
     table: &T,
     foldings: &Foldings,
     compat: bool,
-    first: u32,
+    code: char,
     own: &mut Vec<u8>,
-) -> Option<char>
+) -> bool
     ensures less { IsLessMarked own.old.items own.new.items }
-    ensures told { IsTold (folded_by (T.model table.now) foldings.now) compat own.new.items first }
+    ensures told { IsTold (folded_by (T.model table.now) foldings.now) compat own.new.items code }
 {
     table.meets_conditions();
-    let code = char::from_u32(first)?;
-    if table.hangul() && is_syllable(first) {
-        return None;
+    if is_unmarked(own.as_slice(), code) {
+        return false;
     }
-    if table.full(code, true).is_empty() || is_own(table, foldings, compat, code) {
-        return None;
+    if table.hangul() && is_syllable(u32::from(code)) {
+        return false;
+    }
+    if is_own(table, foldings, compat, code) {
+        return false;
     }
     clear(own, code);
-    Some(code)
+    true
 }
 
-/// The images of the first code points of the rows, among which are all that have a mapping in the file.
+/// The images of code points that have a mapping, by one kind of normalization.
 fn of_rows<T: NormTable>(
     alloc: Global,
     table: &T,
     foldings: &Foldings,
-    compat: bool,
+    rows: (bool, &[char]),
     own: &mut Vec<u8>,
 ) -> Result<Vec<Image>, Memory>
-    ensures known { IfOk result (λ list. AreKnown (folded_by (T.model table.now) foldings.now) compat list.items) }
+    ensures known { IfOk result (λ list. AreKnown (folded_by (T.model table.now) foldings.now) rows.entry.0 list.items) }
     ensures less { IsLessMarked own.old.items own.new.items }
-    ensures told { OnOk result ((c : ℕ) → Below (IsRowAt (T.model table.now).entries) (length (T.model table.now).entries) c
-        → IsTold (folded_by (T.model table.now) foldings.now) compat own.new.items c) }
+    ensures told { OnOk result ((c : ℕ) → Below (IsCodeAt rows.entry.1.now) (length rows.entry.1.now) c
+        → IsTold (folded_by (T.model table.now) foldings.now) rows.entry.0 own.new.items c) }
 {
+    let (compat, codes) = rows;
     let mut list = Vec::new(alloc);
-    for at in 0..table.version().row_count() {
-        let first = table.version().row_in(at).first;
-        if let Some(code) = look_at(table, foldings, compat, first, own) {
-            if let Some(image) = known_image(alloc, table, foldings, compat, code)? {
+    for code in codes {
+        if look_at(table, foldings, compat, *code, own) {
+            if let Some(image) = known_image(alloc, table, foldings, compat, *code)? {
                 list.push(image)?;
             }
         }
@@ -158,7 +171,7 @@ fn of_rows<T: NormTable>(
 }
 
 impl Images {
-    /// The images of all code points.
+    /// The images of all code points, where all that have a mapping in the file are listed.
     ///
     /// # Errors
     ///
@@ -168,8 +181,10 @@ impl Images {
         table: &T,
         foldings: &Foldings,
         compat: bool,
+        mapped: &[char],
     ) -> Result<Images, Memory>
-        ensures { IfOk result (AreAllImages (folded_by (T.model table.now) foldings.now) compat) }
+        ensures { IfOk result (λ images. AreMapped (T.model table.now) mapped.now
+            → AreAllImages (folded_by (T.model table.now) foldings.now) compat images) }
     {
         table.meets_conditions();
         foldings.are_in_order();
@@ -177,7 +192,7 @@ impl Images {
         own.resize(CODE_POINTS, 1)?;
         let of_foldings = of_foldings(alloc, table, foldings, compat, &mut own)?;
         clear_syllables(table, foldings, &mut own);
-        let of_rows = of_rows(alloc, table, foldings, compat, &mut own)?;
+        let of_rows = of_rows(alloc, table, foldings, (compat, mapped), &mut own)?;
         Ok(Images {
             own,
             of_foldings,

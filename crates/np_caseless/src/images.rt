@@ -1,17 +1,16 @@
 //! What may stand in place of code points before the last normalization of a caseless key: their images.
-ghost use Rattle.std.specs.Prelude.{◌≡◌, ◌++◌, true, flat_map, IfOk, OnOk, IsTrue};
-ghost use Rattle.std.specs.List.{list_all};
+ghost use Rattle.std.specs.Prelude.{◌≡◌, ◌++◌, flat_map, IfOk, OnOk, IsTrue};
 ghost use Rattle.np_caseless.specs.Folded.{folded_by};
-ghost use Rattle.np_caseless.specs.inside.Images.{AreImages, folded_parts, stays};
+ghost use Rattle.np_caseless.specs.inside.Images.{AreImages, folded_parts};
 ghost use Rattle.np_versions.specs.inside.FullDecompositions.{full_of};
 
+use crate::lent_parts::do_stay;
 use crate::quiet::folding_of;
 use np_code_points::Memory;
 use np_foldings::Foldings;
 use np_forms::full_decomposition;
 use np_versions::NormTable;
 use std::alloc::Global;
-use std::slice;
 
 /// Appends the full decompositions of code points.
 fn push_full<T: NormTable>(
@@ -62,41 +61,6 @@ fn parts_folded<T: NormTable>(
     Ok(parts)
 }
 
-/// Whether a code point is a starter, or folds and decomposes to itself alone.
-fn does_stay<T: NormTable>(
-    alloc: Global,
-    table: &T,
-    foldings: &Foldings,
-    compat: bool,
-    code: char,
-) -> Result<bool, Memory>
-    ensures { IfOk result (λ is. IsTrue is → stays (folded_by (T.model table.now) foldings.now) compat code ≡ true) }
-{
-    if table.class(code) == 0 {
-        return Ok(true);
-    }
-    let parts = parts_folded(alloc, table, foldings, compat, slice::from_ref(&code))?;
-    Ok(parts.as_slice() == slice::from_ref(&code))
-}
-
-/// Whether all of these code points do.
-fn do_stay<T: NormTable>(
-    alloc: Global,
-    table: &T,
-    foldings: &Foldings,
-    compat: bool,
-    codes: &[char],
-) -> Result<bool, Memory>
-    ensures { IfOk result (λ are. IsTrue are → list_all (stays (folded_by (T.model table.now) foldings.now) compat) codes.now ≡ true) }
-{
-    for code in codes {
-        if !does_stay(alloc, table, foldings, compat, *code)? {
-            return Ok(false);
-        }
-    }
-    Ok(true)
-}
-
 /// Whether code points are known to be the images of others.
 pub(crate) fn are_images<T: NormTable>(
     alloc: Global,
@@ -109,12 +73,12 @@ pub(crate) fn are_images<T: NormTable>(
 {
     let (of, images) = codes;
     let first = full_parts(alloc, table, false, of)?;
-    if !do_stay(alloc, table, foldings, compat, first.as_slice())? {
+    if !do_stay(table, foldings, compat, first.as_slice()) {
         return Ok(false);
     }
     let mut last = parts_folded(alloc, table, foldings, compat, first.as_slice())?;
     if compat {
-        if !do_stay(alloc, table, foldings, compat, last.as_slice())? {
+        if !do_stay(table, foldings, compat, last.as_slice()) {
             return Ok(false);
         }
         last = parts_folded(alloc, table, foldings, compat, last.as_slice())?;

@@ -19,8 +19,11 @@ mod images;
 mod keys;
 pub mod laws;
 mod leasts;
+mod lent_parts;
+mod mapped_rows;
 mod not_folded;
 mod own_images;
+mod quick_images;
 mod quiet;
 mod quiet_hangul;
 

@@ -30,7 +30,10 @@ pub(crate) fn code_at(foldings: &Foldings, at: usize) -> Option<u32>
 pub(crate) fn is_quiet(foldings: &Foldings, code: char) -> bool
     ensures { result ≡ quiet foldings.now code }
 {
-    folding_of(foldings, &code) == slice::from_ref(&code)
+    match foldings.find(code) {
+        Some(mapping) => mapping == slice::from_ref(&code),
+        None => true,
+    }
 }
 
 /// Whether any number does, as a code point. A surrogate does.

@@ -100,10 +100,10 @@ none_begun items n c begun none =
     let past = leb-false (get_or items i d).code c (begun.1 i d (omega arith) high) in omega arith))
 
 -- where the block of a code point isn't marked, it isn't listed
-pub not_marked : (items : List Item) (blocks : List ℕ) (c : ℕ) → AreMarked blocks items → get_or blocks (c / 256) 1 ≡ 0
+pub not_marked : (items : List Item) (blocks : List ℕ) (c : ℕ) → AreMarked blocks items → get_or blocks (c / 16) 1 ≡ 0
     → folding_at (map folding_of items) c ≡ c ∷ []
 not_marked items blocks c marked none =
-    none_among items c (All-from_all_within (IsOther c) items (λ i d low high e. marked i d high (ap (λ n. get_or blocks (n / 256) 1) e ∙ none)))
+    none_among items c (All-from_all_within (IsOther c) items (λ i d low high e. marked i d high (ap (λ n. get_or blocks (n / 16) 1) e ∙ none)))
 
 -- one more block is marked
 pub marked_next : (items : List Item) (before after : List ℕ) (at : ℕ) (f : Item) → f ≡ get_or items at f → at < length items → IsMarked after f.code

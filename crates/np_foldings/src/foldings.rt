@@ -10,10 +10,10 @@ use std::alloc::Global;
 use std::marker::Model;
 
 /// How many code points a block has.
-const BLOCK: usize = 256;
+const BLOCK: usize = 16;
 
 /// How many blocks there are.
-const BLOCKS: usize = 0x1100;
+const BLOCKS: usize = 0x1_1000;
 
 /// What a code point folds to, where that is not the code point alone.
 #[derive(Debug, PartialEq, Eq, Drop)]
@@ -28,7 +28,7 @@ pub struct Folding {
 #[derive(Debug, Drop)]
 pub struct Foldings {
     foldings: Vec<Folding>,
-    /// By block of 256 code points, 0 where none of it folds.
+    /// By block of 16 code points, 0 where none of it folds.
     blocks: Vec<u8>,
 }
 
@@ -49,7 +49,7 @@ impl Model for Foldings {
 
 /// The block of a code point.
 fn block_of(code: char) -> usize
-    ensures { result ≡ code / 256 }
+    ensures { result ≡ code / 16 }
 {
     u32::from(code) as usize / BLOCK
 }
@@ -78,7 +78,7 @@ fn marked_blocks(alloc: Global, foldings: &[Folding]) -> Result<Vec<u8>, Memory>
 
 /// Whether the block of a code point isn't known to have none that folds.
 fn is_marked(blocks: &[u8], code: char) -> bool
-    ensures { result ≡ false → get_or blocks.now (code / 256) 1 ≡ 0 }
+    ensures { result ≡ false → get_or blocks.now (code / 16) 1 ≡ 0 }
 {
     match blocks.get(block_of(code)) {
         Some(block) => *block != 0,
@@ -127,7 +127,7 @@ impl Foldings {
     }
 
     /// What a code point folds to, where that is not the code point alone. In time logarithmic in the foldings, and in constant
-    /// time where no code point folds of the 256 among which it stands.
+    /// time where no code point folds of the 16 among which it stands.
     pub fn find(&self, code: char) -> Option<&[char]>
         ensures { MatchOption result (folding_at self.now code ≡ code ∷ []) (λ mapping. folding_at self.now code ≡ mapping.now) }
     {

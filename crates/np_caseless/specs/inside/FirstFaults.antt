@@ -1,12 +1,13 @@
 -- Of the faults at a code point the one with the least number, and of these the first. That of a lowercase is found apart.
-use Rattle.std.specs.Prelude.{◌≡◌, ℕ, ◌+◌, ◌<◌, true, ◌&&◌, nat_lt, List, Option, Some, None, option_map, slice_get, MatchOption, if◌then◌else◌}
+use Rattle.std.specs.Prelude.{◌≡◌, ℕ, ◌+◌, ◌<◌, ◌⊎◌, true, ◌&&◌, get_or, length, nat_lt, List, Option, Some, None, option_map, slice_get, MatchOption, if◌then◌else◌}
 use Rattle.np_code_points.specs.Hangul.{is_syllable}
 use Rattle.np_foldings.specs.Foldings.{Folding}
 use Rattle.np_ucd.specs.Entries.{Entry}
-use Rattle.np_versions.specs.Versions.{has_hangul}
+use Rattle.np_versions.specs.Mappings.{is_final}
+use Rattle.np_versions.specs.Versions.{VersionData, has_hangul}
 use Rattle.np_caseless.specs.ConditionFaults.{place_of}
 use Rattle.np_caseless.specs.Faults.{IsUnassignedFolded, IsFoldedToUnassigned, IsFoldedAgain, IsFoldedTooLong}
-use Rattle.np_caseless.specs.Folded.{FoldedVersion}
+use Rattle.np_caseless.specs.Folded.{FoldedVersion, is_quiet}
 use Rattle.np_caseless.specs.declared.faults.ConditionFault.{ConditionFault}
 use Rattle.np_caseless.specs.declared.faults.ConditionFault.TheVariants.{FoldsUnassigned, FoldsToUnassigned, FoldsAgain, FoldedTooLong, NotFolded, Memory}
 
@@ -60,6 +61,30 @@ IsFoldingAt foldings k c = option_map (λ f. f.code) (slice_get foldings k) ≡ 
 -- the first code point of the row at a place
 abbrev pub IsRowAt : List Entry → ℕ → ℕ → Type 0
 IsRowAt entries k c = option_map (λ e. e.first) (slice_get entries k) ≡ Some c
+
+-- a code point, where it folds to itself alone
+abbrev pub IsQuietHere : List Folding → ℕ → ℕ → Type 0
+IsQuietHere foldings code c = (c ≡ code) × (is_quiet foldings c ≡ true)
+
+-- the code point at a place of a list
+abbrev pub IsCodeAt : List ℕ → ℕ → ℕ → Type 0
+IsCodeAt codes k c = get_or codes k 0 ≡ c
+
+-- where it folds to itself alone
+abbrev pub IsQuietCodeAt : FoldedVersion → List ℕ → ℕ → ℕ → Type 0
+IsQuietCodeAt v codes k c = IsCodeAt codes k c × (is_quiet v.foldings c ≡ true)
+
+-- a code point has no mapping, or that of the arithmetic
+abbrev pub HasNoMapping : VersionData → ℕ → Type 0
+HasNoMapping v c = (is_final v true c ≡ true) ⊎ ((has_hangul v && is_syllable c) ≡ true)
+
+-- a list has the first code point of each of the first rows that has another mapping
+abbrev pub AreMappedBelow : VersionData → ℕ → List ℕ → Type 0
+AreMappedBelow v n codes = (c : ℕ) → Below (IsRowAt v.entries) n c → HasNoMapping v c ⊎ Below (IsCodeAt codes) (length codes) c
+
+-- of each row
+abbrev pub AreMapped : VersionData → List ℕ → Type 0
+AreMapped v codes = AreMappedBelow v (length v.entries) codes
 
 -- the syllable at a place
 abbrev pub IsSyllableAt : ℕ → ℕ → Type 0

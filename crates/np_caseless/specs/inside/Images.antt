@@ -23,6 +23,17 @@ unfoldable pub last_parts : FoldedVersion → Bool → ℕ → List ℕ
 last_parts v false c = once_folded v false c
 last_parts v true c = flat_map (folded_parts v true) (once_folded v true c)
 
+-- what the folding of a code point's canonical decomposition decomposes to, with nothing that folds changing places
+pub record LeadsOnce (v : FoldedVersion) (compat : Bool) (c : ℕ) (list : List ℕ) : Type 0 where
+  pub first : list_all (stays v compat) (full_of v.version false c) ≡ true
+  pub once : list ≡ once_folded v compat c
+
+-- what is normalized last
+pub record AreLast (v : FoldedVersion) (compat : Bool) (c : ℕ) (list : List ℕ) : Type 0 where
+  pub first : list_all (stays v compat) (full_of v.version false c) ≡ true
+  pub second : compat ≡ true → list_all (stays v true) (once_folded v true c) ≡ true
+  pub last : list ≡ last_parts v compat c
+
 -- ys may stand in place of xs
 pub record AreImages (v : FoldedVersion) (compat : Bool) (xs ys : List ℕ) : Type 0 where
   -- on the way to what is normalized last nothing that folds changes places

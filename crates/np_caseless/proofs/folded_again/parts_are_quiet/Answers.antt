@@ -6,7 +6,7 @@ use Rattle.np_caseless.proofs.folded_again.parts_are_quiet.Goals as goal
 
 pub returns : goal.returns
 returns g c =
-    c.are_quiet.ensures
+    c.are_quiet-2.ensures
     ∙ ap (list_all (is_quiet c.args.foldings.now))
     (c.as_slice.ensures.value
     ∙ full_of-only (g.T.NormTable.model c.args.table.now) c.args.compat c.meets_conditions.ensures.shallow c.args.code c.in_ok-full.full.items c.in_ok-full.ensures)

@@ -40,4 +40,4 @@ returns-then-not-is_marked c =
     let items = c.self.inside.foldings.items in
     ap (λ (fs : List Folding). folding_at fs c.args.code) (sym c.self.view_is)
     ∙ not_marked items c.self.inside.blocks.items c.args.code c.self.invariant.1
-    (ap (λ (xs : List ℕ). get_or xs (c.args.code / 256) 1) (sym c.as_slice.ensures.value) ∙ c.is_marked.ensures c.if-not-is_marked.true)
+    (ap (λ (xs : List ℕ). get_or xs (c.args.code / 16) 1) (sym c.as_slice.ensures.value) ∙ c.is_marked.ensures c.if-not-is_marked.true)

@@ -1,6 +1,6 @@
 use Rattle.np_caseless.specs.Folded.{folded_by}
 use Rattle.np_caseless.proofs.ImageTableLemmas.{short_own}
-use Rattle.np_caseless.proofs.folding_faults.is_known_short.Goals as goal
+use Rattle.np_caseless.proofs.folding_faults.is_own_short.Goals as goal
 
 pub returns : goal.returns
 returns g c = λ yes long.

@@ -1,8 +1,9 @@
 use Rattle.std.proofs.Common.{◌∙◌, sym, ap, flat_map}
+use Rattle.std.proofs.lemmas.List.{append-nil}
 use Rattle.np_caseless.specs.Folded.{folded_by}
 use Rattle.np_caseless.specs.inside.Images.{folded_parts}
-use Rattle.np_caseless.proofs.ImageLemmas.{starter_stays, alone_told}
-use Rattle.np_caseless.proofs.images.does_stay.Goals as goal
+use Rattle.np_caseless.proofs.ImageLemmas.{starter_stays, alone_stays}
+use Rattle.np_caseless.proofs.lent_parts.does_stay.Goals as goal
 
 pub returns-then-class-eq0 : goal.returns-then-class-eq0
 returns-then-class-eq0 g c = λ yes.
@@ -11,5 +12,6 @@ returns-then-class-eq0 g c = λ yes.
 pub returns : goal.returns
 returns g c = λ yes.
     let v = folded_by (g.T.NormTable.model c.args.table.now) c.args.foldings.now in
-    alone_told v c.args.compat c.args.code c.as_slice.result.now c.from_ref-2.result.now
-    (c.as_slice.ensures.value ∙ c.in_ok-parts.ensures ∙ ap (flat_map (folded_parts v c.args.compat)) c.from_ref.ensures.value) c.from_ref-2.ensures.value (sym c.eq.ensures ∙ yes)
+    let one = c.from_ref-one.ensures.value in
+    alone_stays v c.args.compat c.args.code
+    (sym (append-nil (folded_parts v c.args.compat c.args.code)) ∙ sym (ap (flat_map (folded_parts v c.args.compat)) one) ∙ sym (c.do_lead_to.ensures yes) ∙ one)

@@ -1,6 +1,0 @@
-use Rattle.np_caseless.specs.Folded.{folded_by}
-use Rattle.np_caseless.specs.inside.FirstFaults.{Below, IsFirstOf, IsRowAt}
-use Rattle.np_caseless.proofs.first_faults.first_of_rows.Given as goal
-
-abbrev pub invariant-loop-at : goal.invariant-loop-at
-invariant-loop-at g l = IsFirstOf (folded_by (g.T.NormTable.model l.table) l.foldings) (Below (IsRowAt (g.T.NormTable.model l.table).entries) l.at) l.first
