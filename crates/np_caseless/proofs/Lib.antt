@@ -17,5 +17,6 @@ pub mod LengthLemmas
 pub mod ListedLemmas
 pub mod QuietLemmas
 mod RunLemmas
+pub mod SimpleLemmas
 pub mod StabilityLemmas
 pub mod UnfoldedLemmas

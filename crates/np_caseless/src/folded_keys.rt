@@ -26,6 +26,24 @@ fn refusal<T: NormTable>(table: &T, text: &str) -> NpssFault
 }
 
 impl<T: NormTable + Drop> FoldedTable<T> {
+    /// The caseless key of a text by the images of its code points that are as long, where all have one.
+    fn key_by_simple_images(
+        &self,
+        alloc: Global,
+        wanted: Form,
+        text: &str,
+    ) -> Result<Option<String>, Memory>
+        ensures key { IfOk result (λ made. IfSome made (λ t. IsCaseless self.now wanted (chars text.now) (chars (string_bytes t)))) }
+        ensures assigned { IfOk result (λ made. IsSome made → IsAssigned self.now.version (chars text.now)) }
+    {
+        let mut room = Vec::new(alloc);
+        room.resize(text.len(), 0)?;
+        if !self.write_key(wanted, text, room.as_mut_slice()) {
+            return Ok(None);
+        }
+        Ok(Some(unsafe { String::from_utf8_unchecked(room) }))
+    }
+
     /// The caseless key of a text by the images of its code points, where all are known and assigned.
     fn key_by_images(
         &self,
@@ -37,6 +55,9 @@ impl<T: NormTable + Drop> FoldedTable<T> {
         ensures assigned { IfOk result (λ made. IsSome made → IsAssigned self.now.version (chars text.now)) }
     {
         self.meets_conditions();
+        if let Some(key) = self.key_by_simple_images(alloc, wanted, text)? {
+            return Ok(Some(key));
+        }
         let Some(images) = image_text(alloc, self.images(wanted.compat()), text)? else {
             return Ok(None);
         };

@@ -1,3 +1,4 @@
+use Rattle.std.proofs.Common.{refl}
 use Rattle.np_caseless.specs.Folded.{folded_by}
 use Rattle.np_caseless.proofs.ConditionLemmas.{sound_where}
 use Rattle.np_caseless.proofs.folded_tables.FoldedTable.build.Goals as goal
@@ -8,4 +9,5 @@ invariant_of-result g c = (
       c.are_in_order.ensures,
   record { canonically = c.in_ok-canonical.ensures; compatibly = c.in_ok-compatible.ensures },
   c.in_ok-ascii.ensures,
+  c.in_ok-simple.ensures (folded_by (g.T.NormTable.model c.args.table) c.args.foldings) refl c.in_ok-canonical.ensures c.in_ok-compatible.ensures,
 )
