@@ -1,9 +1,9 @@
 -- What a text is made into by images that stand for its code points whatever is around them.
-use Rattle.std.proofs.Common.{◌≡◌, ℕ, ◌+◌, ◌*◌, ◌/◌, ◌%◌, ◌<◌, ◌≤◌, List, [], ◌∷◌, ◌++◌, append_assoc, drop, get_or, length, length-append, slice_set, take, arith, chars, encode_utf8, encode_utf8_all, IsUtf8, refl, sym, ap, ap₂, subst, ◌∙◌, inl, inr}
+use Rattle.std.proofs.Common.{◌≡◌, ℕ, ◌+◌, ◌*◌, ◌/◌, ◌%◌, ◌<◌, ◌≤◌, List, [], ◌∷◌, ◌++◌, append_assoc, drop, get_or, length, length-append, replicate, slice_set, take, arith, chars, encode_utf8, encode_utf8_all, IsUtf8, refl, sym, ap, ap₂, subst, ◌∙◌, inl, inr}
 use Rattle.std.proofs.Math.Seq.{drop-append_seam, take-append_seam}
 use Rattle.std.proofs.lemmas.Bool.{and_from}
 use Rattle.std.proofs.lemmas.Grind.{flat_map-append}
-use Rattle.std.proofs.lemmas.List.{append-nil, drop-drop, drop_more, get_or-drop, get_or_append_left, get_or_push, length-drop, length-set, take_more_set}
+use Rattle.std.proofs.lemmas.List.{append-nil, drop-drop, drop_more, get_or-drop, get_or-replicate, get_or-set_other, get_or-set_same, length-drop, length-replicate, length-set, take_more_set}
 use Rattle.std.proofs.lemmas.List.Elements.{All-append, All-drop, All-nil, All-take}
 use Rattle.std.proofs.lemmas.List.Folds.{list_all-append}
 use Rattle.std.proofs.lemmas.Str.{chars-nil, chars_from_encodes, encodes-chars, IsUtf8-append, IsUtf8-nil}
@@ -19,13 +19,14 @@ use Rattle.np_forms.proofs.CopyLemmas.{normal_form-nil, parts-at}
 use Rattle.np_forms.proofs.FormLemmas.{IsNormalForm-value, normal_form_is}
 use Rattle.np_forms.proofs.TextLemmas.{IsRead-next, IsRead-start}
 use Rattle.np_versions.specs.Versions.{is_assigned}
-use Rattle.np_versions.proofs.Words.{cases_lt}
+use Rattle.np_versions.proofs.Words.{cases_eq}
 use Rattle.np_versions.proofs.Utf8Lemmas.{BeginsWith, begins_with_three, begins_with_two, encode_one}
 use Rattle.np_caseless.specs.Caseless.{IsCaseless}
 use Rattle.np_caseless.specs.Conditions.{IsSoundFolding}
 use Rattle.np_caseless.specs.Folded.{FoldedVersion}
 use Rattle.np_caseless.specs.inside.Images.{AreImages}
-use Rattle.np_caseless.specs.inside.SimpleImages.{AddsNoControl, AreSimple, IsCodeAt, IsImageWritten, IsSimpleKey, StandsFor, IsSimple, bytes_of, listed}
+use Rattle.np_caseless.specs.SimpleKeys.{AddsNoControl, IsSimpleKey}
+use Rattle.np_caseless.specs.inside.SimpleImages.{AreSimple, IsCodeAt, IsImageWritten, StandsFor, IsSimple, bytes_of, listed}
 use Rattle.np_caseless.specs.declared.simple_images.SimpleImage.{SimpleImage}
 use Rattle.np_caseless.proofs.AssignedLemmas.{images_assigned}
 use Rattle.np_caseless.proofs.ImageLemmas.{encoded_text, images_more, IsCaseless-images, no_images}
@@ -118,16 +119,22 @@ pub stands_listed : (v : FoldedVersion) (form : Form) (code : ℕ) (own bytes : 
 stands_listed v form code own bytes image of_code is stands =
     subst (StandsFor v form code) (sym is ∙ ap (λ l. bytes_of (length l) image) of_code) stands
 
--- one more image behind a list
-pub simple_push : (v : FoldedVersion) (form : Form) (list : List SimpleImage) (image : SimpleImage) → AreSimple v form list → IsSimple v form (length list) image → AreSimple v form (list ++ image ∷ [])
-simple_push v form list image done one c within =
+-- another image at the place of its code point, and no images at all
+pub simple_put : (v : FoldedVersion) (form : Form) (list : List SimpleImage) (code : ℕ) (image : SimpleImage) → code < length list → AreSimple v form list → IsSimple v form code image
+    → AreSimple v form (slice_set list code image)
+simple_put v form list code image within done one c more =
     let none : SimpleImage = record { first = 0; second = 0; third = 0 } in
-    elim (cases_lt c (length list)) [
-      | inl less ↦ subst (λ i. IsSimple v form c i) (sym (get_or_append_left list (image ∷ []) none c less)) (done c less)
-      | inr more ↦
-          let here : length list ≡ c = omega (arith, more, within, length-append list (image ∷ [])) in
-          subst (λ i. IsSimple v form c i) (sym (get_or_push list image none c here)) (subst (λ k. IsSimple v form k image) here one)
+    elim (cases_eq c code) [
+      | inl here ↦
+          subst (λ k. IsSimple v form k (listed (slice_set list code image) k)) (sym here)
+          (subst (λ i. IsSimple v form code i) (sym (get_or-set_same list code image none within)) one)
+      | inr other ↦
+          subst (λ i. IsSimple v form c i) (sym (get_or-set_other list code c image none other)) (done c (omega (arith, more, length-set list code image)))
     ]
+
+pub simple_none : (v : FoldedVersion) (form : Form) (n : ℕ) (none : SimpleImage) → none.first ≡ 0 → AreSimple v form (replicate n none)
+simple_none v form n none zero c within known =
+    absurd (known (ap (λ (i : SimpleImage). i.first) (get_or-replicate n c none (record { first = 0; second = 0; third = 0 }) (omega (arith, within, length-replicate n none))) ∙ zero))
 
 -- ---- characters where they stand
 

@@ -1,16 +1,17 @@
 //! Caseless keys by the images of code points.
-ghost use Rattle.std.specs.Prelude.{◌≡◌, chars, string_bytes, IfOk, IfErr, IfSome, IsSome, OnOk};
+ghost use Rattle.std.specs.Prelude.{◌≡◌, chars, string_bytes, IfOk, IfErr, IfSome, IsSome, IsTrue, OnOk};
 ghost use Rattle.std.specs.Cow.{cow_str_bytes};
 ghost use Rattle.np_forms.specs.Assigned.{IsAssigned};
 ghost use Rattle.np_forms.specs.Faults.{IsNpssFault};
 ghost use Rattle.np_caseless.specs.Caseless.{IsCaseless};
+ghost use Rattle.np_caseless.specs.SimpleKeys.{IsSimpleKey};
 
 use crate::ascii::folded_text;
 use crate::folded_tables::FoldedTable;
 use crate::image_texts::{are_marked, image_text};
 use crate::keys::caseless_key;
 use np_code_points::{Form, Memory};
-use np_forms::{NpssFault, first_unassigned_char, into_npss, lend_npss};
+use np_forms::{NpssFault, first_unassigned_char, into_npss, lend_npss, quick_check_span};
 use np_versions::{NormTable, ascii_front};
 use std::alloc::Global;
 use std::borrow::CowStr;
@@ -26,6 +27,15 @@ fn refusal<T: NormTable>(table: &T, text: &str) -> NpssFault
 }
 
 impl<T: NormTable + Drop> FoldedTable<T> {
+    /// Whether a text is known to be its own caseless key. Takes no memory.
+    pub fn is_own_key(&self, wanted: Form, text: &str) -> bool
+        ensures { IsTrue result → IsSimpleKey self.now wanted text.now text.now }
+    {
+        self.meets_conditions();
+        are_marked(self.images(wanted.compat()).own.as_slice(), text)
+            && quick_check_span(self.table(), wanted, text) == text.len()
+    }
+
     /// The caseless key of a text by the images of its code points that are as long, where all have one.
     fn key_by_simple_images(
         &self,

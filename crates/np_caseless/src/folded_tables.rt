@@ -5,7 +5,8 @@ ghost use Rattle.np_caseless.specs.ConditionFaults.{IsFaultless, IsLeastFault};
 ghost use Rattle.np_caseless.specs.Folded.{folded_by};
 ghost use Rattle.np_caseless.specs.inside.AsciiFoldings.{FoldsAscii};
 ghost use Rattle.np_caseless.specs.inside.ImageTables.{AreAllImages};
-ghost use Rattle.np_caseless.specs.inside.SimpleImages.{AreOfForms, IsSimpleKey};
+ghost use Rattle.np_caseless.specs.SimpleKeys.{IsSimpleKey};
+ghost use Rattle.np_caseless.specs.inside.SimpleImages.{AreOfForms};
 ghost use Rattle.np_caseless.specs.declared.faults.ConditionFault.TheVariants.{Memory as OutOfMemory};
 
 use crate::ascii::ascii_foldings;

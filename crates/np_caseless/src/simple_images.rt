@@ -6,7 +6,8 @@ ghost use Rattle.np_caseless.specs.Folded.{FoldedVersion};
 ghost use Rattle.np_versions.specs.Boundaries.{BeginsAtBoundary};
 ghost use Rattle.np_caseless.specs.inside.Images.{AreImages};
 ghost use Rattle.np_caseless.specs.inside.ImageTables.{AreAllImages};
-ghost use Rattle.np_caseless.specs.inside.SimpleImages.{AddsNoControl, AreOfForm, AreOfForms, IsApart, IsSimple, bytes_of};
+ghost use Rattle.np_caseless.specs.SimpleKeys.{AddsNoControl};
+ghost use Rattle.np_caseless.specs.inside.SimpleImages.{AreOfForm, AreOfForms, IsApart, IsSimple, MayBecome, bytes_of};
 
 use crate::image_tables::Images;
 use crate::image_texts::{image_of, is_marked};
@@ -15,8 +16,11 @@ use np_forms::quick_check_span;
 use np_versions::NormTable;
 use std::alloc::Global;
 
-/// The code points below this have their images here.
+/// The code points below this may have their images here: those that fold and what they fold to, and the first ones.
 const SIMPLE: usize = 0x3000;
+
+/// The code points below this have theirs, folding or not: ASCII, the other signs of Latin-1, and letters.
+const FIRST: u32 = 0x250;
 
 /// The bytes of an image, as many as its code point has, and then zeros. The first is 0 where no image is known.
 #[derive(Clone, Copy)]
@@ -126,12 +130,9 @@ fn is_apart<T: NormTable>(table: &T, form: Form, text: &str) -> bool
 }
 
 /// The image of a code point, where it is known and as said.
-fn simple_image<T: NormTable>(table: &T, images: &Images, form: Form, code: u32) -> SimpleImage
+fn simple_image<T: NormTable>(table: &T, images: &Images, form: Form, code: char) -> SimpleImage
     ensures { (v : FoldedVersion) → v.version ≡ T.model table.now → AreAllImages v (is_compat form) images.now → IsSimple v form code result }
 {
-    let Some(code) = char::from_u32(code) else {
-        return unknown();
-    };
     let mut room = [0; 4];
     let own = code.encode_utf8(&mut room);
     match known_image(images, code, own) {
@@ -146,6 +147,66 @@ fn simple_image<T: NormTable>(table: &T, images: &Images, form: Form, code: u32)
     }
 }
 
+/// Puts the image of a code point to its place, where it has one and none is known yet.
+fn put<T: NormTable>(table: &T, images: &Images, form: Form, code: char, list: &mut [SimpleImage])
+    ensures length { length list.new ≡ length list.old }
+    ensures simple { MayBecome (T.model table.now) images.now form list.old list.new }
+{
+    let at = u32::from(code) as usize;
+    if at < list.len() && list[at].first == 0 {
+        list[at] = simple_image(table, images, form, code);
+    }
+}
+
+/// Puts those of the code points of a text.
+fn put_text<T: NormTable>(
+    table: &T,
+    images: &Images,
+    form: Form,
+    text: &str,
+    list: &mut [SimpleImage],
+)
+    ensures length { length list.new ≡ length list.old }
+    ensures simple { MayBecome (T.model table.now) images.now form list.old list.new }
+{
+    for code in text.chars() {
+        put(table, images, form, code, list);
+    }
+}
+
+/// Puts those of the first code points.
+fn put_first<T: NormTable>(table: &T, images: &Images, form: Form, list: &mut [SimpleImage])
+    ensures length { length list.new ≡ length list.old }
+    ensures simple { MayBecome (T.model table.now) images.now form list.old list.new }
+{
+    for code in 0..FIRST {
+        if let Some(code) = char::from_u32(code) {
+            put(table, images, form, code, list);
+        }
+    }
+}
+
+/// Puts those of the code points that fold, and of what they fold to.
+fn put_folding<T: NormTable>(table: &T, images: &Images, form: Form, list: &mut [SimpleImage])
+    ensures length { length list.new ≡ length list.old }
+    ensures simple { MayBecome (T.model table.now) images.now form list.old list.new }
+{
+    for at in 0..images.of_foldings.len() {
+        let image = &images.of_foldings[at];
+        put(table, images, form, image.code, list);
+        put_text(table, images, form, image.text.as_str(), list);
+    }
+}
+
+/// Puts both.
+fn put_all<T: NormTable>(table: &T, images: &Images, form: Form, list: &mut [SimpleImage])
+    ensures length { length list.new ≡ length list.old }
+    ensures simple { MayBecome (T.model table.now) images.now form list.old list.new }
+{
+    put_first(table, images, form, list);
+    put_folding(table, images, form, list);
+}
+
 /// The images by a form, at the places of their code points.
 fn simple_images<T: NormTable>(
     alloc: Global,
@@ -156,10 +217,9 @@ fn simple_images<T: NormTable>(
     ensures { (v : FoldedVersion) → v.version ≡ T.model table.now → AreAllImages v (is_compat form) images.now
         → IfOk result (λ list. AreOfForm v form list.items) }
 {
-    let mut list = Vec::with_capacity(alloc, SIMPLE)?;
-    'codes: while list.len() < SIMPLE {
-        list.push(simple_image(table, images, form, list.len() as u32))?;
-    }
+    let mut list = Vec::new(alloc);
+    list.resize(SIMPLE, unknown())?;
+    put_all(table, images, form, list.as_mut_slice());
     Ok(list)
 }
 

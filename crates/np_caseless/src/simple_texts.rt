@@ -2,7 +2,8 @@
 ghost use Rattle.std.specs.Prelude.{◌≡◌, ◌<◌, ◌≤◌, ◌/◌, drop, get_or, length, IsTrue, IsUtf8};
 ghost use Rattle.np_caseless.specs.Conditions.{IsSoundFolding};
 ghost use Rattle.np_caseless.specs.Folded.{FoldedVersion};
-ghost use Rattle.np_caseless.specs.inside.SimpleImages.{AreSimple, IsImageWritten, IsSimpleKey};
+ghost use Rattle.np_caseless.specs.SimpleKeys.{IsSimpleKey};
+ghost use Rattle.np_caseless.specs.inside.SimpleImages.{AreSimple, IsImageWritten};
 ghost use Rattle.np_code_points.specs.declared.forms.Form.{Form};
 
 use crate::simple_images::SimpleImage;

@@ -1,21 +1,19 @@
 -- Images that have as many bytes as what they stand for.
 use Rattle.std.specs.Prelude.{◌≡◌, ◌≢◌, ℕ, ◌+◌, ◌<◌, ◌≤◌, List, [], ◌∷◌, ◌++◌, chars, drop, encode_utf8, get_or, length, take, IsUtf8}
 use Rattle.np_code_points.specs.Forms.{is_compat}
-use Rattle.np_code_points.specs.Lines.{HasNo}
 use Rattle.np_code_points.specs.declared.forms.Form.{Form}
 use Rattle.np_code_points.specs.declared.forms.Form.TheVariants.{Nfd, Nfc, Nfkd, Nfkc}
 use Rattle.np_forms.specs.Assigned.{IsAssigned}
 use Rattle.np_forms.specs.Forms.{IsNormalForm}
 use Rattle.np_versions.specs.Boundaries.{BeginsAtBoundary}
-use Rattle.np_caseless.specs.Caseless.{IsCaseless}
+use Rattle.np_versions.specs.Versions.{VersionData}
 use Rattle.np_caseless.specs.Folded.{FoldedVersion}
+use Rattle.np_caseless.specs.SimpleKeys.{AddsNoControl}
 use Rattle.np_caseless.specs.inside.Images.{AreImages}
+use Rattle.np_caseless.specs.inside.ImageTables.{AreAllImages}
+use Rattle.np_caseless.specs.declared.image_tables.Images.{Images}
 use Rattle.np_caseless.specs.declared.simple_images.SimpleImage.{SimpleImage}
 use Rattle.np_caseless.specs.declared.simple_images.SimpleImages.{SimpleImages}
-
--- where one list has no control of ASCII, another has none
-abbrev pub AddsNoControl : List ℕ → List ℕ → Type 0
-AddsNoControl before after = (b : ℕ) → b < 32 → HasNo b before → HasNo b after
 
 -- a text is assigned, and its own form, which begins at a boundary
 pub record IsApart (v : FoldedVersion) (form : Form) (bytes : List ℕ) : Type 0 where
@@ -46,6 +44,11 @@ listed list c = get_or list c (record { first = 0; second = 0; third = 0 })
 abbrev pub AreSimple : FoldedVersion → Form → List SimpleImage → Type 0
 AreSimple v form list = (c : ℕ) → c < length list → IsSimple v form c (listed list c)
 
+-- images of the kind of the form make one list of such images into another
+abbrev pub MayBecome : VersionData → Images → Form → List SimpleImage → List SimpleImage → Type 0
+MayBecome version images form before after =
+    (v : FoldedVersion) → v.version ≡ version → AreAllImages v (is_compat form) images → AreSimple v form before → AreSimple v form after
+
 -- those of a form
 pub record AreOfForm (v : FoldedVersion) (form : Form) (list : List SimpleImage) : Type 0 where
   pub size : length list ≡ 0x3000
@@ -71,10 +74,3 @@ pub record IsImageWritten (list : List SimpleImage) (text : List ℕ) (at count 
   pub within : code < length list
   pub known : (listed list code).first ≢ 0
   pub written : take (at + count) after ≡ take at before ++ bytes_of count (listed list code)
-
--- a text of assigned code points, and its caseless key
-pub record IsSimpleKey (v : FoldedVersion) (form : Form) (text key : List ℕ) : Type 0 where
-  pub utf8 : IsUtf8 key
-  pub caseless : IsCaseless v form (chars text) (chars key)
-  pub assigned : IsAssigned v.version (chars text)
-  pub ends : AddsNoControl text key

@@ -2,7 +2,8 @@ use Rattle.std.proofs.Common.{◌≤◌, ◌+◌, drop, length, take, refl, ap, 
 use Rattle.std.proofs.lemmas.List.{take_all}
 use Rattle.std.proofs.Math.ListN.{drop_of_length-le}
 use Rattle.np_forms.proofs.Words.{IsUtf8-past_char}
-use Rattle.np_caseless.specs.inside.SimpleImages.{IsImageWritten, IsSimpleKey}
+use Rattle.np_caseless.specs.SimpleKeys.{IsSimpleKey}
+use Rattle.np_caseless.specs.inside.SimpleImages.{IsImageWritten}
 use Rattle.np_caseless.proofs.SimpleLemmas.{simple_start, simple_whole, written_next}
 use Rattle.np_caseless.proofs.simple_texts.write_images.Goals as goal
 
