@@ -8,7 +8,7 @@ use Rattle.std.proofs.lemmas.Str.{encodes-chars}
 use Rattle.std.specs.List.{AllZip}
 use Rattle.np_caseless.specs.Caseless.{IsCaseless}
 use Rattle.np_caseless.specs.Folded.{FoldedVersion}
-use Rattle.np_caseless.specs.inside.SimpleImages.{IsSimpleKey}
+use Rattle.np_caseless.specs.SimpleKeys.{IsSimpleKey}
 use Rattle.np_code_points.specs.Lines.{HasNo}
 use Rattle.np_code_points.specs.declared.forms.Form.{Form}
 use Rattle.np_lines.specs.Answers.{IsAnswerBy, is_refusal, told_key}

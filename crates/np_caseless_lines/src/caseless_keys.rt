@@ -61,7 +61,7 @@ impl<'t, T: NormTable + Drop> LineKeys for CaselessKeys<'t, T> {
     }
 
     /// Answers the lines of ASCII at the front of a text, of which each byte is folded by itself, and then those of which each
-    /// code point is.
+    /// code point is, or none folds.
     fn push_front<'a>(
         &self,
         end: LineEnd,

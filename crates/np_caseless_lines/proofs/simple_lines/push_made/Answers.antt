@@ -1,7 +1,7 @@
 use Rattle.std.proofs.Common.{◌≡◌, ◌+◌, ◌++◌, ◌∷◌, [], drop, length, ap₂, ◌∙◌, arith}
 use Rattle.std.proofs.lemmas.List.{take_at}
 use Rattle.np_caseless_lines.proofs.SimpleLineLemmas.{pushed_is}
-use Rattle.np_caseless_lines.proofs.simple_lines.push_line.Goals as goal
+use Rattle.np_caseless_lines.proofs.simple_lines.push_made.Goals as goal
 
 pub returns-clause-pushed : goal.returns-clause-pushed
 returns-clause-pushed g c = λ yes.
