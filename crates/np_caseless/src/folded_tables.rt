@@ -3,13 +3,13 @@ ghost use Rattle.std.specs.Prelude.{◌≡◌, ◌⊎◌, length, IfOk, IfErr, I
 ghost use Rattle.np_caseless.specs.Conditions.{IsSoundFolding};
 ghost use Rattle.np_caseless.specs.ConditionFaults.{IsFaultless, IsLeastFault};
 ghost use Rattle.np_caseless.specs.Folded.{folded_by};
-ghost use Rattle.np_caseless.specs.inside.AsciiFoldings.{FoldsAscii};
+ghost use Rattle.np_caseless.specs.inside.AsciiFoldings.{FoldsAscii, LowersAscii};
 ghost use Rattle.np_caseless.specs.inside.ImageTables.{AreAllImages};
 ghost use Rattle.np_caseless.specs.SimpleKeys.{IsSimpleKey};
 ghost use Rattle.np_caseless.specs.inside.SimpleImages.{AreOfForms};
 ghost use Rattle.np_caseless.specs.declared.faults.ConditionFault.TheVariants.{Memory as OutOfMemory};
 
-use crate::ascii::ascii_foldings;
+use crate::ascii::{are_lowercases, ascii_foldings};
 use crate::faults::ConditionFault;
 use crate::first_faults::first_fault;
 use crate::image_tables::Images;
@@ -31,14 +31,15 @@ pub struct FoldedTable<T: NormTable + Drop> {
     canonical: Images,
     compatible: Images,
     ascii: Option<Vec<u8>>,
+    lowers: bool,
     simple: SimpleImages,
 }
 
 impl<T: NormTable + Drop> Model for FoldedTable<T> {
-    ghost use Rattle.std.specs.Prelude.{IfSome};
+    ghost use Rattle.std.specs.Prelude.{IfSome, IsTrue};
     ghost use Rattle.np_caseless.specs.Conditions.{IsSoundFolding};
     ghost use Rattle.np_caseless.specs.Folded.{FoldedVersion, folded_by};
-    ghost use Rattle.np_caseless.specs.inside.AsciiFoldings.{FoldsAscii};
+    ghost use Rattle.np_caseless.specs.inside.AsciiFoldings.{FoldsAscii, LowersAscii};
     ghost use Rattle.np_caseless.specs.inside.ImageTables.{HaveImages};
     ghost use Rattle.np_caseless.specs.inside.SimpleImages.{AreOfForms};
 
@@ -49,6 +50,7 @@ impl<T: NormTable + Drop> Model for FoldedTable<T> {
     ghost invariant = { λ a. IsSoundFolding (folded_by (T.model a.table) a.foldings)
         × HaveImages (folded_by (T.model a.table) a.foldings) a.canonical a.compatible
         × IfSome a.ascii (λ bytes. FoldsAscii (folded_by (T.model a.table) a.foldings) bytes.items)
+        × (IsTrue a.lowers → IfSome a.ascii (λ bytes. LowersAscii bytes.items))
         × AreOfForms (folded_by (T.model a.table) a.foldings) a.simple };
 }
 
@@ -65,6 +67,16 @@ fn judge<T: NormTable>(
     match first_fault(alloc, table, foldings, lowercases)? {
         Some(fault) => Err(fault),
         None => Ok(()),
+    }
+}
+
+/// Whether what ASCII folds to is known, and is its lowercases.
+fn lower(ascii: &Option<Vec<u8>>) -> bool
+    ensures { IsTrue result → IfSome ascii.now (λ bytes. LowersAscii bytes.items) }
+{
+    match ascii {
+        Some(bytes) => are_lowercases(bytes.as_slice()),
+        None => false,
     }
 }
 
@@ -92,6 +104,7 @@ impl<T: NormTable + Drop> FoldedTable<T> {
         let canonical = Images::build(alloc, &table, &foldings, false)?;
         let compatible = Images::build(alloc, &table, &foldings, true)?;
         let ascii = ascii_foldings(alloc, &table, &foldings)?;
+        let lowers = lower(&ascii);
         let simple = SimpleImages::build(alloc, &table, &canonical, &compatible)?;
         Ok(FoldedTable {
             table,
@@ -99,6 +112,7 @@ impl<T: NormTable + Drop> FoldedTable<T> {
             canonical,
             compatible,
             ascii,
+            lowers,
             simple,
         })
     }
@@ -148,6 +162,23 @@ impl<T: NormTable + Drop> FoldedTable<T> {
     {
         self.meets_conditions();
         write_images(self.simple_images().by_form(wanted), text, room)
+    }
+
+    /// The same, where these are the lowercases of ASCII.
+    pub fn lowered_ascii(&self) -> Option<&[u8]>
+        ensures folds { IfSome result (λ bytes. FoldsAscii self.now bytes.now) }
+        ensures lowers { IfSome result (λ bytes. LowersAscii bytes.now) }
+    {
+        match &self.ascii {
+            Some(bytes) => {
+                if self.lowers {
+                    Some(bytes.as_slice())
+                } else {
+                    None
+                }
+            }
+            None => None,
+        }
     }
 
     /// The table.

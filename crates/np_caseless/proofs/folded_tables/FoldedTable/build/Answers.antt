@@ -9,5 +9,6 @@ invariant_of-result g c = (
       c.are_in_order.ensures,
   record { canonically = c.in_ok-canonical.ensures; compatibly = c.in_ok-compatible.ensures },
   c.in_ok-ascii.ensures,
+  c.lower-lowers.ensures,
   c.in_ok-simple.ensures (folded_by (g.T.NormTable.model c.args.table) c.args.foldings) refl c.in_ok-canonical.ensures c.in_ok-compatible.ensures,
 )
