@@ -19,5 +19,6 @@ pub mod ListedLemmas
 pub mod MappedLemmas
 pub mod QuietLemmas
 mod RunLemmas
+pub mod SimpleLemmas
 pub mod StabilityLemmas
 pub mod UnfoldedLemmas

@@ -7,4 +7,5 @@ pub mod Extension
 pub mod Faults
 pub mod Folded
 pub mod Laws
+pub mod SimpleKeys
 pub mod inside

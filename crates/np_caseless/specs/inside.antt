@@ -6,4 +6,5 @@ pub mod ImageTables
 pub mod Images
 pub mod Keys
 pub mod Leasts
+pub mod SimpleImages
 pub mod Unfolded

@@ -1,16 +1,17 @@
 //! Caseless keys by the images of code points.
-ghost use Rattle.std.specs.Prelude.{◌≡◌, chars, string_bytes, IfOk, IfErr, IfSome, IsSome, OnOk};
+ghost use Rattle.std.specs.Prelude.{◌≡◌, chars, string_bytes, IfOk, IfErr, IfSome, IsSome, IsTrue, OnOk};
 ghost use Rattle.std.specs.Cow.{cow_str_bytes};
 ghost use Rattle.np_forms.specs.Assigned.{IsAssigned};
 ghost use Rattle.np_forms.specs.Faults.{IsNpssFault};
 ghost use Rattle.np_caseless.specs.Caseless.{IsCaseless};
+ghost use Rattle.np_caseless.specs.SimpleKeys.{IsSimpleKey};
 
 use crate::ascii::folded_text;
 use crate::folded_tables::FoldedTable;
 use crate::image_texts::{are_marked, image_text};
 use crate::keys::caseless_key;
 use np_code_points::{Form, Memory};
-use np_forms::{NpssFault, first_unassigned_char, into_npss, lend_npss};
+use np_forms::{NpssFault, first_unassigned_char, into_npss, lend_npss, quick_check_span};
 use np_versions::{NormTable, ascii_front};
 use std::alloc::Global;
 use std::borrow::CowStr;
@@ -26,6 +27,33 @@ fn refusal<T: NormTable>(table: &T, text: &str) -> NpssFault
 }
 
 impl<T: NormTable + Drop> FoldedTable<T> {
+    /// Whether a text is known to be its own caseless key. Takes no memory.
+    pub fn is_own_key(&self, wanted: Form, text: &str) -> bool
+        ensures { IsTrue result → IsSimpleKey self.now wanted text.now text.now }
+    {
+        self.meets_conditions();
+        are_marked(self.images(wanted.compat()).own.as_slice(), text)
+            && quick_check_span(self.table(), wanted, text) == text.len()
+    }
+
+    /// The caseless key of a text by the images of its code points that are as long, where all have one.
+    fn key_by_simple_images(
+        &self,
+        alloc: Global,
+        wanted: Form,
+        text: &str,
+    ) -> Result<Option<String>, Memory>
+        ensures key { IfOk result (λ made. IfSome made (λ t. IsCaseless self.now wanted (chars text.now) (chars (string_bytes t)))) }
+        ensures assigned { IfOk result (λ made. IsSome made → IsAssigned self.now.version (chars text.now)) }
+    {
+        let mut room = Vec::new(alloc);
+        room.resize(text.len(), 0)?;
+        if !self.write_key(wanted, text, room.as_mut_slice()) {
+            return Ok(None);
+        }
+        Ok(Some(unsafe { String::from_utf8_unchecked(room) }))
+    }
+
     /// The caseless key of a text by the images of its code points, where all are known and assigned.
     fn key_by_images(
         &self,
@@ -37,6 +65,9 @@ impl<T: NormTable + Drop> FoldedTable<T> {
         ensures assigned { IfOk result (λ made. IsSome made → IsAssigned self.now.version (chars text.now)) }
     {
         self.meets_conditions();
+        if let Some(key) = self.key_by_simple_images(alloc, wanted, text)? {
+            return Ok(Some(key));
+        }
         let Some(images) = image_text(alloc, self.images(wanted.compat()), text)? else {
             return Ok(None);
         };

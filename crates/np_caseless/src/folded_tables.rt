@@ -1,18 +1,23 @@
 //! Tables of versions with their foldings.
-ghost use Rattle.std.specs.Prelude.{◌≡◌, ◌⊎◌, IfOk, IfErr, IfSome, OnOk};
+ghost use Rattle.std.specs.Prelude.{◌≡◌, ◌⊎◌, length, IfOk, IfErr, IfSome, IsTrue, OnOk};
 ghost use Rattle.np_caseless.specs.Conditions.{IsSoundFolding};
 ghost use Rattle.np_caseless.specs.ConditionFaults.{IsFaultless, IsLeastFault};
 ghost use Rattle.np_caseless.specs.Folded.{folded_by};
-ghost use Rattle.np_caseless.specs.inside.AsciiFoldings.{FoldsAscii};
+ghost use Rattle.np_caseless.specs.inside.AsciiFoldings.{FoldsAscii, LowersAscii};
 ghost use Rattle.np_caseless.specs.inside.FirstFaults.{AreMapped};
 ghost use Rattle.np_caseless.specs.inside.ImageTables.{AreAllImages};
+ghost use Rattle.np_caseless.specs.SimpleKeys.{IsSimpleKey};
+ghost use Rattle.np_caseless.specs.inside.SimpleImages.{AreOfForms};
 ghost use Rattle.np_caseless.specs.declared.faults.ConditionFault.TheVariants.{Memory as OutOfMemory};
 
-use crate::ascii::ascii_foldings;
+use crate::ascii::{are_lowercases, ascii_foldings};
 use crate::faults::ConditionFault;
 use crate::first_faults::first_fault;
 use crate::image_tables::Images;
 use crate::mapped_rows::mapped_codes;
+use crate::simple_images::SimpleImages;
+use crate::simple_texts::write_images;
+use np_code_points::Form;
 use np_foldings::{Foldings, Lowercase};
 use np_versions::NormTable;
 use std::alloc::Global;
@@ -28,14 +33,17 @@ pub struct FoldedTable<T: NormTable + Drop> {
     canonical: Images,
     compatible: Images,
     ascii: Option<Vec<u8>>,
+    lowers: bool,
+    simple: SimpleImages,
 }
 
 impl<T: NormTable + Drop> Model for FoldedTable<T> {
-    ghost use Rattle.std.specs.Prelude.{IfSome};
+    ghost use Rattle.std.specs.Prelude.{IfSome, IsTrue};
     ghost use Rattle.np_caseless.specs.Conditions.{IsSoundFolding};
     ghost use Rattle.np_caseless.specs.Folded.{FoldedVersion, folded_by};
-    ghost use Rattle.np_caseless.specs.inside.AsciiFoldings.{FoldsAscii};
+    ghost use Rattle.np_caseless.specs.inside.AsciiFoldings.{FoldsAscii, LowersAscii};
     ghost use Rattle.np_caseless.specs.inside.ImageTables.{HaveImages};
+    ghost use Rattle.np_caseless.specs.inside.SimpleImages.{AreOfForms};
 
     ghost Value = { FoldedVersion };
 
@@ -43,7 +51,9 @@ impl<T: NormTable + Drop> Model for FoldedTable<T> {
 
     ghost invariant = { λ a. IsSoundFolding (folded_by (T.model a.table) a.foldings)
         × HaveImages (folded_by (T.model a.table) a.foldings) a.canonical a.compatible
-        × IfSome a.ascii (λ bytes. FoldsAscii (folded_by (T.model a.table) a.foldings) bytes.items) };
+        × IfSome a.ascii (λ bytes. FoldsAscii (folded_by (T.model a.table) a.foldings) bytes.items)
+        × (IsTrue a.lowers → IfSome a.ascii (λ bytes. LowersAscii bytes.items))
+        × AreOfForms (folded_by (T.model a.table) a.foldings) a.simple };
 }
 
 /// Tells the fault at the least code point, where there is one, else the code points that have a mapping in the file.
@@ -61,6 +71,16 @@ fn judge<T: NormTable>(
     match first_fault(alloc, table, foldings, lowercases, mapped.as_slice())? {
         Some(fault) => Err(fault),
         None => Ok(mapped),
+    }
+}
+
+/// Whether what ASCII folds to is known, and is its lowercases.
+fn lower(ascii: &Option<Vec<u8>>) -> bool
+    ensures { IsTrue result → IfSome ascii.now (λ bytes. LowersAscii bytes.items) }
+{
+    match ascii {
+        Some(bytes) => are_lowercases(bytes.as_slice()),
+        None => false,
     }
 }
 
@@ -89,12 +109,16 @@ impl<T: NormTable + Drop> FoldedTable<T> {
         let canonical = Images::build(alloc, &table, &foldings, false, codes)?;
         let compatible = Images::build(alloc, &table, &foldings, true, codes)?;
         let ascii = ascii_foldings(alloc, &table, &foldings)?;
+        let lowers = lower(&ascii);
+        let simple = SimpleImages::build(alloc, &table, &canonical, &compatible)?;
         Ok(FoldedTable {
             table,
             foldings,
             canonical,
             compatible,
             ascii,
+            lowers,
+            simple,
         })
     }
 
@@ -116,6 +140,13 @@ impl<T: NormTable + Drop> FoldedTable<T> {
         }
     }
 
+    /// The images that are as long as their code points.
+    pub(crate) fn simple_images(&self) -> &SimpleImages
+        ensures { AreOfForms self.now result.now }
+    {
+        &self.simple
+    }
+
     /// What each character of ASCII folds to, at its place, where that makes the caseless keys of texts of ASCII under each form:
     /// each byte by itself.
     pub fn ascii(&self) -> Option<&[u8]>
@@ -123,6 +154,34 @@ impl<T: NormTable + Drop> FoldedTable<T> {
     {
         match &self.ascii {
             Some(bytes) => Some(bytes.as_slice()),
+            None => None,
+        }
+    }
+
+    /// Writes the caseless key of a text to as much room, where each of its code points has an image that is as long and stands
+    /// for it whatever is around it; answers whether it was written. Where it wasn't, anything may stand there.
+    pub fn write_key(&self, wanted: Form, text: &str, room: &mut [u8]) -> bool
+        requires { length room.now ≡ length text.now }
+        ensures length { length room.new ≡ length room.old }
+        ensures key { IsTrue result → IsSimpleKey self.now wanted text.now room.new }
+    {
+        self.meets_conditions();
+        write_images(self.simple_images().by_form(wanted), text, room)
+    }
+
+    /// The same, where these are the lowercases of ASCII.
+    pub fn lowered_ascii(&self) -> Option<&[u8]>
+        ensures folds { IfSome result (λ bytes. FoldsAscii self.now bytes.now) }
+        ensures lowers { IfSome result (λ bytes. LowersAscii bytes.now) }
+    {
+        match &self.ascii {
+            Some(bytes) => {
+                if self.lowers {
+                    Some(bytes.as_slice())
+                } else {
+                    None
+                }
+            }
             None => None,
         }
     }

@@ -11,7 +11,7 @@ use np_code_points::Memory;
 use std::alloc::Global;
 
 /// Whether a code point is marked as its own image.
-fn is_marked(own: &[u8], code: char) -> bool
+pub(crate) fn is_marked(own: &[u8], code: char) -> bool
     ensures { IsTrue result → IsMarked own.now code }
 {
     match own.get(u32::from(code) as usize) {
@@ -68,7 +68,7 @@ fn found(list: &[Image], code: char) -> Option<&str>
 }
 
 /// The image of a code point that isn't marked, where it is known.
-fn image_of(images: &Images, code: char) -> Option<&str>
+pub(crate) fn image_of(images: &Images, code: char) -> Option<&str>
     ensures text { IfSome result (λ text. IsUtf8 text.now) }
     ensures image { (v : FoldedVersion) (compat : Bool) → AreAllImages v compat images.now
         → IfSome result (λ text. AreImages v compat (code ∷ []) (code_points text.now)) }

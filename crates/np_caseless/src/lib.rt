@@ -26,6 +26,8 @@ mod own_images;
 mod quick_images;
 mod quiet;
 mod quiet_hangul;
+mod simple_images;
+mod simple_texts;
 
 pub use ascii::{fold_into, push_folded};
 pub use audits::{audit, extends};

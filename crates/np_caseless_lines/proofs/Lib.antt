@@ -1,1 +1,2 @@
 pub mod AsciiLemmas
+pub mod SimpleLineLemmas

@@ -15,7 +15,8 @@ use np_lines::{LIMIT, LineEnd, cut_line};
 use np_versions::ascii_front;
 
 /// Appends `=`, the bytes of a line and what ends it.
-fn push_unfolded(out: &mut Vec<u8>, line: &[u8], end: LineEnd) -> Result<(), Memory>
+#[inline(always)]
+pub(crate) fn push_unfolded(out: &mut Vec<u8>, line: &[u8], end: LineEnd) -> Result<(), Memory>
     ensures { OnOk result (out.new.items ≡ out.old.items ++ (61 ∷ line.now ++ byte_of end ∷ [])) }
 {
     out.push(b'=')?;

@@ -1,7 +1,11 @@
 //! The caseless key of a line as its key.
+ghost use Rattle.std.specs.Prelude.{IfOk};
 ghost use Rattle.np_caseless.specs.Caseless.{IsCaseless};
+ghost use Rattle.np_lines.specs.Answers.{IsAnswerBy};
+ghost use Rattle.np_lines.specs.Pushed.{ArePushed};
 
 use crate::ascii::push_ascii;
+use crate::simple_lines::push_simple;
 use np_caseless::FoldedTable;
 use np_code_points::{Form, Memory};
 use np_forms::NpssFault;
@@ -15,6 +19,25 @@ use std::borrow::CowStr;
 pub struct CaselessKeys<'t, T: NormTable + Drop> {
     pub folded: &'t FoldedTable<T>,
     pub form: Form,
+}
+
+impl<'t, T: NormTable + Drop> CaselessKeys<'t, T> {
+    /// Answers the lines of ASCII at the front of a text, of which each byte is folded by itself.
+    fn push_bytes<'a>(
+        &self,
+        end: LineEnd,
+        text: &'a str,
+        out: &mut Vec<u8>,
+    ) -> Result<&'a str, Memory>
+        ensures { IfOk result (λ rest. ArePushed (IsAnswerBy (IsCaseless self.now.folded.now self.now.form) self.now.folded.now.version end) end
+            text.now rest.now out.old.items out.new.items) }
+    {
+        self.folded.meets_conditions();
+        match self.folded.ascii() {
+            Some(bytes) => push_ascii(bytes, end, text, out),
+            None => Ok(text),
+        }
+    }
 }
 
 impl<'t, T: NormTable + Drop> LineKeys for CaselessKeys<'t, T> {
@@ -37,17 +60,15 @@ impl<'t, T: NormTable + Drop> LineKeys for CaselessKeys<'t, T> {
         Ok(text)
     }
 
-    /// Answers the lines of ASCII at the front of a text, of which each byte is folded by itself.
+    /// Answers the lines of ASCII at the front of a text, of which each byte is folded by itself, and then those of which each
+    /// code point is, or none folds.
     fn push_front<'a>(
         &self,
         end: LineEnd,
         text: &'a str,
         out: &mut Vec<u8>,
     ) -> Result<&'a str, Memory> {
-        self.folded.meets_conditions();
-        match self.folded.ascii() {
-            Some(bytes) => push_ascii(bytes, end, text, out),
-            None => Ok(text),
-        }
+        let rest = self.push_bytes(end, text, out)?;
+        push_simple(self.folded, self.form, end, rest, out)
     }
 }

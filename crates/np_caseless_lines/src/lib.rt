@@ -10,5 +10,6 @@
 mod ascii;
 mod caseless_keys;
 pub mod laws;
+mod simple_lines;
 
 pub use caseless_keys::CaselessKeys;

@@ -12,16 +12,16 @@ returns-in-Ok-clause-key g c =
     let v = c.args.self.now in
     let xs = chars c.args.text.now in
     let images =
-    subst (λ o. IfSome o (λ t. AreImages v c.compat.result xs (chars (string_bytes t)))) c.in-Some.is (c.in_ok-images.ensures v c.compat.result c.images.ensures) in
-    IsCaseless-images v c.meets_conditions.ensures.version c.args.wanted xs (chars c.in-Some.images.bytes.items) (chars c.in-Ok.key.bytes.items)
-    (subst (λ (b : Bool). AreImages v b xs (chars c.in-Some.images.bytes.items)) c.compat.ensures images)
-    (subst (λ (d : VersionData). IsNormalForm d c.args.wanted (chars c.in-Some.images.bytes.items) (chars c.in-Ok.key.bytes.items)) c.table.ensures c.in-Ok.ensures.normal)
+    subst (λ o. IfSome o (λ t. AreImages v c.compat.result xs (chars (string_bytes t)))) c.in-Some-2.is (c.in_ok-images.ensures v c.compat.result c.images.ensures) in
+    IsCaseless-images v c.meets_conditions.ensures.version c.args.wanted xs (chars c.in-Some-2.images.bytes.items) (chars c.in-Ok.key.bytes.items)
+    (subst (λ (b : Bool). AreImages v b xs (chars c.in-Some-2.images.bytes.items)) c.compat.ensures images)
+    (subst (λ (d : VersionData). IsNormalForm d c.args.wanted (chars c.in-Some-2.images.bytes.items) (chars c.in-Ok.key.bytes.items)) c.table.ensures c.in-Ok.ensures.normal)
 
 pub returns-in-Ok-clause-assigned : goal.returns-in-Ok-clause-assigned
 returns-in-Ok-clause-assigned g c =
     let v = c.args.self.now in
     let xs = chars c.args.text.now in
     let images =
-    subst (λ o. IfSome o (λ t. AreImages v c.compat.result xs (chars (string_bytes t)))) c.in-Some.is (c.in_ok-images.ensures v c.compat.result c.images.ensures) in
-    λ _. images_assigned v c.meets_conditions.ensures c.compat.result xs (chars c.in-Some.images.bytes.items) images
-    (subst (λ (d : VersionData). IsAssigned d (chars c.in-Some.images.bytes.items)) c.table.ensures c.in-Ok.ensures.assigned)
+    subst (λ o. IfSome o (λ t. AreImages v c.compat.result xs (chars (string_bytes t)))) c.in-Some-2.is (c.in_ok-images.ensures v c.compat.result c.images.ensures) in
+    λ _. images_assigned v c.meets_conditions.ensures c.compat.result xs (chars c.in-Some-2.images.bytes.items) images
+    (subst (λ (d : VersionData). IsAssigned d (chars c.in-Some-2.images.bytes.items)) c.table.ensures c.in-Ok.ensures.assigned)
