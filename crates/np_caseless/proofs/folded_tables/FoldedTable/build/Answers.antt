@@ -7,7 +7,8 @@ use Rattle.np_caseless.proofs.folded_tables.FoldedTable.build.Goals as goal
 pub invariant_of-result : goal.invariant_of-result
 invariant_of-result g c =
     let codes = subst (AreMapped (g.T.NormTable.model c.args.table)) (sym c.as_slice-codes.ensures.value) c.in_ok-mapped.ensures.mapped in (
-      sound_where (folded_by (g.T.NormTable.model c.args.table) c.args.foldings) c.args.lowercases.now c.in_ok-mapped.ensures.faultless c.meets_conditions.ensures
+      sound_where (folded_by (g.T.NormTable.model c.args.table) c.args.foldings) c.args.lowercases.now c.in_ok-mapped.ensures.faultless
+          c.meets_conditions.ensures
           c.are_in_order.ensures,
       record { canonically = c.in_ok-canonical.ensures codes; compatibly = c.in_ok-compatible.ensures codes },
       c.in_ok-ascii.ensures,
