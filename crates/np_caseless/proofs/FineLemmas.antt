@@ -30,7 +30,8 @@ use Rattle.np_caseless.proofs.ListedLemmas.{listed, surrogate_quiet}
 use Rattle.np_caseless.proofs.QuietLemmas.{final_weaker, fold_all-quiet}
 
 -- What a table lends nothing for, and is no syllable, has no mapping.
-lent_plain : (v : VersionData) (c : ℕ) (lent : List ℕ) (none : Bool) → IsSound v → IsLent v true c lent → (has_hangul v && is_syllable c) ≡ false → none ≡ eqb (length lent) 0 → none ≡ true
+lent_plain : (v : VersionData) (c : ℕ) (lent : List ℕ) (none : Bool) → IsSound v → IsLent v true c lent → (has_hangul v && is_syllable c) ≡ false
+    → none ≡ eqb (length lent) 0 → none ≡ true
     → is_final v true c ≡ true
 lent_plain v c lent none sound is plain test h =
     elim (cases_Bool (is_final v true c)) [
@@ -200,7 +201,8 @@ module _ (v : FoldedVersion) (sound : IsSound v.version) where
       ]
 
 -- what a table lends nothing for has no mapping but that of the arithmetic
-pub unlent_unmapped : (v : VersionData) → IsSound v → (code c : ℕ) (lent : List ℕ) (none : Bool) → code ≡ c → IsLent v true code lent → none ≡ eqb (length lent) 0 → none ≡ true
+pub unlent_unmapped : (v : VersionData) → IsSound v → (code c : ℕ) (lent : List ℕ) (none : Bool) → code ≡ c → IsLent v true code lent
+    → none ≡ eqb (length lent) 0 → none ≡ true
     → HasNoMapping v c
 unlent_unmapped v sound code c lent none same is test h =
     subst (HasNoMapping v) same

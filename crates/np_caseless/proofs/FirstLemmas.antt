@@ -106,7 +106,8 @@ module _ (v : FoldedVersion) where
   pub of_no_folding : (k : ℕ) → slice_get v.foldings k ≡ None → IsFirstOf v (IsFoldingAt v.foldings k) None
   of_no_folding k none = λ c is. absurd (let e = ap (option_map (λ (x : Folding). x.code)) none in cc)
 
-  pub of_quiet_code : (codes : List ℕ) (k x : ℕ) (o : Option ConditionFault) → k < length codes → x ≡ get_or codes k x → IsFirstOf v (IsQuietHere v.foldings x) o
+  pub of_quiet_code : (codes : List ℕ) (k x : ℕ) (o : Option ConditionFault) → k < length codes → x ≡ get_or codes k x
+      → IsFirstOf v (IsQuietHere v.foldings x) o
       → IsFirstOf v (IsQuietCodeAt v codes k) o
   of_quiet_code codes k x o lt here h =
       of_fewer (IsQuietHere v.foldings x) (IsQuietCodeAt v codes k) o (λ c is. (sym is.0 ∙ sym (here ∙ get_or_default_zero codes k x lt), is.1)) h
@@ -115,7 +116,8 @@ module _ (v : FoldedVersion) where
   pub first_folding : (c : ℕ) → is_quiet v.foldings c ≡ false → IsFirstOf v (IsQuietHere v.foldings c) None
   first_folding c folds = λ d here. absurd (both_ways (is_quiet v.foldings c) folds (subst (λ e. is_quiet v.foldings e ≡ true) here.0 here.1))
 
-  pub first_long : (c code : ℕ) → code ≡ c → is_quiet v.foldings c ≡ true → IsFoldedTooLong v c → IsFirstOf v (IsQuietHere v.foldings c) (Some (FoldedTooLong code))
+  pub first_long : (c code : ℕ) → code ≡ c → is_quiet v.foldings c ≡ true → IsFoldedTooLong v c
+      → IsFirstOf v (IsQuietHere v.foldings c) (Some (FoldedTooLong code))
   first_long c code is quiet long =
       record {
         at = (refl, subst (IsFoldedTooLong v) (sym is) long, subst (FoldsWell v) (sym is) (quiet_well v c quiet));

@@ -82,7 +82,8 @@ module _ (v : FoldedVersion) where
         | inr there ↦ subst (IsTold v compat after) (is ∙ get_or_default_zero codes at x lt ∙ there) here
       ]
 
-  pub told_rows : (compat : Bool) (codes own : List ℕ) → AreMapped v.version codes → ((c : ℕ) → Below (IsCodeAt codes) (length codes) c → IsTold v compat own c)
+  pub told_rows : (compat : Bool) (codes own : List ℕ) → AreMapped v.version codes
+      → ((c : ℕ) → Below (IsCodeAt codes) (length codes) c → IsTold v compat own c)
       → (c : ℕ) → Below (IsRowAt v.version.entries) (length v.version.entries) c → IsTold v compat own c
   told_rows compat codes own mapped told c row =
       elim (mapped c row) [
@@ -109,7 +110,8 @@ module _ (v : FoldedVersion) (sound : IsSound v.version) where
       omega (arith, ap length is, few, long.long)
 
   -- a code point whose images decompose to few code points
-  pub short_image : (c count : ℕ) (ys parts : List ℕ) → AreImages v true (c ∷ []) ys → parts ≡ flat_map (full_of v.version true) ys → count ≡ length parts → count ≤ 64
+  pub short_image : (c count : ℕ) (ys parts : List ℕ) → AreImages v true (c ∷ []) ys → parts ≡ flat_map (full_of v.version true) ys
+      → count ≡ length parts → count ≤ 64
       → ¬ (IsFoldedTooLong v c)
   unfolding normal_form decomposed
   short_image c count ys parts images is counted few long =

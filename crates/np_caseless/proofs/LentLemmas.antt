@@ -13,7 +13,8 @@ use Rattle.np_caseless.proofs.ImageLemmas.{alone_all, starter_stays}
 use Rattle.np_caseless.specs.inside.Images.{AreImages, AreLast, LeadsOnce, folded_parts, last_parts, once_folded, stays}
 
 -- one more code point
-pub one_behind : (list front rest others : List ℕ) (i x one : ℕ) → i < length front → x ≡ get_or front i x → list ≡ take i front ++ rest → rest ≡ one ∷ others → one ≡ x
+pub one_behind : (list front rest others : List ℕ) (i x one : ℕ) → i < length front → x ≡ get_or front i x → list ≡ take i front ++ rest
+    → rest ≡ one ∷ others → one ≡ x
     → list ≡ take (i + 1) front ++ others
 one_behind list front rest others i x one lt here before split same =
     let more : take (i + 1) front ≡ take i front ++ x ∷ [] = take_more front i x lt ∙ ap (λ (k : ℕ). take i front ++ k ∷ []) (sym here) in
@@ -23,7 +24,8 @@ one_behind list front rest others i x one lt here before split same =
     ∙ ap (λ l. l ++ others) (sym more)
 
 -- what one more code point leads to
-pub more_behind : (f : ℕ → List ℕ) (list codes rest others added : List ℕ) (i x : ℕ) → i < length codes → x ≡ get_or codes i x → list ≡ flat_map f (take i codes) ++ rest
+pub more_behind : (f : ℕ → List ℕ) (list codes rest others added : List ℕ) (i x : ℕ) → i < length codes → x ≡ get_or codes i x
+    → list ≡ flat_map f (take i codes) ++ rest
     → added ≡ f x → rest ≡ added ++ others → list ≡ flat_map f (take (i + 1) codes) ++ others
 more_behind f list codes rest others added i x lt here before is split =
     let more : take (i + 1) codes ≡ take i codes ++ x ∷ [] = take_more codes i x lt ∙ ap (λ (k : ℕ). take i codes ++ k ∷ []) (sym here) in
@@ -38,7 +40,8 @@ none_behind list front rest none is test h =
     is ∙ ap (λ l. front ++ l) (nil_from_length rest (eqb-true (length rest) 0 (sym test ∙ h))) ∙ append-nil front
 
 -- a list of one
-pub alone_parts : (f : ℕ → List ℕ) (list rest : List ℕ) (one : ℕ) (none : Bool) → list ≡ one ∷ rest → none ≡ eqb (length rest) 0 → none ≡ true → f one ≡ flat_map f list
+pub alone_parts : (f : ℕ → List ℕ) (list rest : List ℕ) (one : ℕ) (none : Bool) → list ≡ one ∷ rest → none ≡ eqb (length rest) 0 → none ≡ true
+    → f one ≡ flat_map f list
 alone_parts f list rest one none split test h =
     let nil = nil_from_length rest (eqb-true (length rest) 0 (sym test ∙ h)) in
     sym (ap (flat_map f) (split ∙ ap (λ l. one ∷ l) nil) ∙ append-nil (f one))
@@ -71,7 +74,8 @@ module _ (v : FoldedVersion) where
         last = again ∙ ap (flat_map (folded_parts v true)) leads_to.once;
       }
 
-  pub images_of_last : (compat : Bool) (c : ℕ) (last ys : List ℕ) → AreLast v compat c last → last ≡ flat_map (full_of v.version compat) ys → AreImages v compat (c ∷ []) ys
+  pub images_of_last : (compat : Bool) (c : ℕ) (last ys : List ℕ) → AreLast v compat c last → last ≡ flat_map (full_of v.version compat) ys
+      → AreImages v compat (c ∷ []) ys
   images_of_last compat c last ys h is =
       record {
         first = ap (list_all (stays v compat)) (append-nil (full_of v.version false c)) ∙ h.first;
@@ -81,16 +85,19 @@ module _ (v : FoldedVersion) where
 
 -- A starter that has no canonical mapping.
 module _ (v : FoldedVersion) (sound : IsSound v.version) where
-  letter_leads : (compat : Bool) (c : ℕ) (parts : List ℕ) → full_of v.version false c ≡ c ∷ [] → class_of v.version c ≡ 0 → parts ≡ folded_parts v compat c → LeadsOnce v compat c parts
+  letter_leads : (compat : Bool) (c : ℕ) (parts : List ℕ) → full_of v.version false c ≡ c ∷ [] → class_of v.version c ≡ 0
+      → parts ≡ folded_parts v compat c → LeadsOnce v compat c parts
   letter_leads compat c parts alone starter is =
       leads v compat c (c ∷ []) parts (sym alone) (and_from _ _ (starter_stays v compat c (class_of v.version c) refl starter) refl)
       (is ∙ sym (append-nil (folded_parts v compat c)))
 
-  pub letter_once : (compat : Bool) (c : ℕ) (parts : List ℕ) → compat ≡ false → full_of v.version false c ≡ c ∷ [] → class_of v.version c ≡ 0 → parts ≡ folded_parts v compat c
+  pub letter_once : (compat : Bool) (c : ℕ) (parts : List ℕ) → compat ≡ false → full_of v.version false c ≡ c ∷ [] → class_of v.version c ≡ 0
+      → parts ≡ folded_parts v compat c
       → AreLast v compat c parts
   letter_once compat c parts e alone starter is = last_once v compat c parts parts e (letter_leads compat c parts alone starter is) refl
 
-  pub letter_twice : (compat : Bool) (c : ℕ) (parts : List ℕ) → compat ≡ true → full_of v.version false c ≡ c ∷ [] → class_of v.version c ≡ 0 → list_all (is_quiet v.foldings) parts ≡ true
+  pub letter_twice : (compat : Bool) (c : ℕ) (parts : List ℕ) → compat ≡ true → full_of v.version false c ≡ c ∷ [] → class_of v.version c ≡ 0
+      → list_all (is_quiet v.foldings) parts ≡ true
       → parts ≡ folded_parts v compat c → AreLast v compat c parts
   unfolding folded_parts
   letter_twice false c parts e alone starter quiets is = cc

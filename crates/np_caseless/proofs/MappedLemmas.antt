@@ -7,7 +7,8 @@ use Rattle.np_caseless.specs.inside.FirstFaults.{AreMappedBelow, Below, HasNoMap
 use Rattle.np_caseless.proofs.FirstLemmas.{below_next}
 
 module _ (v : VersionData) (at first : ℕ) where
-  pub mapped_none : (codes : List ℕ) → ((c : ℕ) → IsRowAt v.entries at c → c ≡ first) → HasNoMapping v first → AreMappedBelow v at codes → AreMappedBelow v (at + 1) codes
+  pub mapped_none : (codes : List ℕ) → ((c : ℕ) → IsRowAt v.entries at c → c ≡ first) → HasNoMapping v first → AreMappedBelow v at codes
+      → AreMappedBelow v (at + 1) codes
   mapped_none codes only none done = λ c h.
       elim (below_next (IsRowAt v.entries) at c h) [
         | inl earlier ↦ done c earlier

@@ -13,5 +13,6 @@ returns g c = λ mapped.
     let two = c.in_ok-of_rows.of_rows in
     let three = c.in_ok-of_syllables.of_syllables in
     subst (IsFirstOf v (λ _. Unit {0})) (sym (c.sooner-2.ensures ∙ ap (λ o. sooner o three) c.sooner.ensures))
-    (of_three v (Below (IsFoldingAt c.args.foldings.now) (length c.args.foldings.now)) (Below (IsQuietCodeAt v codes) (length codes)) (IsOfArithmetic v) one two three
+    (of_three v (Below (IsFoldingAt c.args.foldings.now) (length c.args.foldings.now)) (Below (IsQuietCodeAt v codes) (length codes))
+    (IsOfArithmetic v) one two three
     (looked_at v c.meets_conditions.ensures codes mapped) c.in_ok-of_foldings.ensures c.in_ok-of_rows.ensures c.in_ok-of_syllables.ensures)

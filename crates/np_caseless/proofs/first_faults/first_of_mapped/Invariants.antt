@@ -4,4 +4,5 @@ use Rattle.np_caseless.proofs.first_faults.first_of_mapped.Given as goal
 
 abbrev pub invariant-loop-code : goal.invariant-loop-code
 invariant-loop-code g l =
-    IsFirstOf (folded_by (g.T.NormTable.model l.table) l.foldings) (Below (IsQuietCodeAt (folded_by (g.T.NormTable.model l.table) l.foldings) l.mapped) l.code-index) l.first
+    IsFirstOf (folded_by (g.T.NormTable.model l.table) l.foldings)
+    (Below (IsQuietCodeAt (folded_by (g.T.NormTable.model l.table) l.foldings) l.mapped) l.code-index) l.first

@@ -13,7 +13,8 @@ loop-code-preserved g c =
     let done = c.loop-code.invariant in
     let less = less_more c.args.own.now.items c.loop-code.own.items c.look_at.new.own.items done.1.0 c.look_at.ensures.less in
     let told =
-    told_next v compat c.args.rows.1.now c.loop-code.code-index c.code-item.result c.loop-code.own.items c.look_at.new.own.items c.loop-code-test.true c.code-item.is
+    told_next v compat c.args.rows.1.now c.loop-code.code-index c.code-item.result c.loop-code.own.items c.look_at.new.own.items
+    c.loop-code-test.true c.code-item.is
     c.look_at.ensures.less c.look_at.ensures.told done.1.1 in
     elim c.if-look_at.branch [
       | then-look_at+in_ok-image+in-Some+in_ok-push w ↦
