@@ -5,11 +5,12 @@ use Rattle.std.proofs.lemmas.List.{drop-drop, drop-set-lt, get_or-drop, map-appe
 use Rattle.std.proofs.lemmas.List.Elements.{All-nil, All-cons, All-head, All-tail}
 use Rattle.std.proofs.lemmas.Str.{chars-IsAscii, encodes-IsAscii, IsAscii-append, IsUtf8-from_ascii}
 use Rattle.std.proofs.lemmas.Str.Ascii.{IsAscii-cons, IsAscii-nil}
+use Rattle.std.specs.Char.{to_ascii_lowercase}
 use Rattle.std.specs.List.{AllZip, list_any}
 use Rattle.std.specs.Str.{IsAscii}
 use Rattle.np_caseless.specs.Caseless.{IsCaseless}
 use Rattle.np_caseless.specs.Folded.{FoldedVersion}
-use Rattle.np_caseless.specs.inside.AsciiFoldings.{FoldsAscii}
+use Rattle.np_caseless.specs.inside.AsciiFoldings.{FoldsAscii, LowersAscii}
 use Rattle.np_caseless.proofs.AsciiLemmas.{ascii_assigned, ascii_caseless, folded_ascii}
 use Rattle.np_code_points.specs.Lines.{HasNo}
 use Rattle.np_code_points.specs.declared.forms.Form.{Form}
@@ -154,3 +155,10 @@ module _ (bytes room old : List ℕ) (at : ℕ) (within : at < length room) (siz
   pub rest_next : (y : ℕ) → drop (at + 1) (slice_set room at y) ≡ drop (at + 1) old
   rest_next y =
       drop-set-lt (at + 1) room at y (omega arith) ∙ sym (drop-drop 1 at room) ∙ ap (drop 1) rest ∙ drop-drop 1 at old
+
+-- lowercases are what a table of them tells
+pub lowered_is : (bytes cs : List ℕ) → length bytes ≡ 128 → LowersAscii bytes → IsAscii cs → map to_ascii_lowercase cs ≡ map (λ b. get_or bytes b 0) cs
+lowered_is bytes [] size lowers h = refl
+lowered_is bytes (c ∷ cs) size lowers h =
+    let low : c < 128 = h 0 in
+    ap₂ (λ x xs. x ∷ xs) (sym (lowers c (omega (arith, size, low)))) (lowered_is bytes cs size lowers (λ i. h (suc i)))

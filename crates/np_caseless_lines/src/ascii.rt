@@ -1,8 +1,9 @@
 //! Lines of ASCII, which are folded byte by byte: they are answered unfolded, and then all of their answers are folded.
 ghost use Rattle.std.specs.Prelude.{◌≡◌, ◌++◌, ◌∷◌, [], ◌≤◌, drop, get_or, length, map, take, IfOk, IsAscii, IsTrue, OnOk};
+ghost use Rattle.std.specs.Char.{to_ascii_lowercase};
 ghost use Rattle.np_caseless.specs.Caseless.{IsCaseless};
 ghost use Rattle.np_caseless.specs.Folded.{FoldedVersion};
-ghost use Rattle.np_caseless.specs.inside.AsciiFoldings.{FoldsAscii};
+ghost use Rattle.np_caseless.specs.inside.AsciiFoldings.{FoldsAscii, LowersAscii};
 ghost use Rattle.np_caseless_lines.specs.inside.Unfolded.{IsUnfolded, KeepsEnds};
 ghost use Rattle.np_code_points.specs.declared.forms.Form.{Form};
 ghost use Rattle.np_lines.specs.Answers.{IsAnswerBy};
@@ -65,6 +66,16 @@ fn fold_from(room: &mut [u8], from: usize, bytes: &[u8])
     fold_where_they_stand(behind, bytes);
 }
 
+/// Makes the bytes of ASCII from a place on their lowercases where they stand.
+fn lower_from(room: &mut [u8], from: usize)
+    requires { from ≤ length room.old }
+    ensures value { room.new ≡ take from room.old ++ map to_ascii_lowercase (drop from room.old) }
+    ensures length { length room.new ≡ length room.old }
+{
+    let (_front, behind) = room.split_at_mut(from);
+    behind.make_ascii_lowercase();
+}
+
 /// Whether `=` and what ends a line fold to themselves.
 fn keeps_ends(bytes: &[u8], end: LineEnd) -> bool
     requires { length bytes.now ≡ 128 }
@@ -90,5 +101,26 @@ pub(crate) fn push_ascii<'a>(
     let from = out.len();
     let rest = push_lines(end, text, out)?;
     fold_from(out.as_mut_slice(), from, bytes);
+    Ok(rest)
+}
+
+/// The same where each character of ASCII folds to its lowercase, which is told without a look into a table.
+pub(crate) fn push_lowered<'a>(
+    bytes: &[u8],
+    end: LineEnd,
+    text: &'a str,
+    out: &mut Vec<u8>,
+) -> Result<&'a str, Memory>
+    requires size { length bytes.now ≡ 128 }
+    requires lowers { LowersAscii bytes.now }
+    ensures { IfOk result (λ rest. (v : FoldedVersion) (form : Form) → IsSound v.version → FoldsAscii v bytes.now →
+        ArePushed (IsAnswerBy (IsCaseless v form) v.version end) end text.now rest.now out.old.items out.new.items) }
+{
+    if !keeps_ends(bytes, end) {
+        return Ok(text);
+    }
+    let from = out.len();
+    let rest = push_lines(end, text, out)?;
+    lower_from(out.as_mut_slice(), from);
     Ok(rest)
 }

@@ -4,7 +4,7 @@ ghost use Rattle.np_caseless.specs.Caseless.{IsCaseless};
 ghost use Rattle.np_lines.specs.Answers.{IsAnswerBy};
 ghost use Rattle.np_lines.specs.Pushed.{ArePushed};
 
-use crate::ascii::push_ascii;
+use crate::ascii::{push_ascii, push_lowered};
 use crate::simple_lines::push_simple;
 use np_caseless::FoldedTable;
 use np_code_points::{Form, Memory};
@@ -33,6 +33,9 @@ impl<'t, T: NormTable + Drop> CaselessKeys<'t, T> {
             text.now rest.now out.old.items out.new.items) }
     {
         self.folded.meets_conditions();
+        if let Some(bytes) = self.folded.lowered_ascii() {
+            return push_lowered(bytes, end, text, out);
+        }
         match self.folded.ascii() {
             Some(bytes) => push_ascii(bytes, end, text, out),
             None => Ok(text),
