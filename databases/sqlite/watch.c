@@ -19,7 +19,7 @@ static int connects(sqlite3 *db, void *held, int count, const char *const *given
     table *self;
     int code = sqlite3_vtab_config(db, SQLITE_VTAB_DIRECTONLY);
     (void)count, (void)given, (void)error;
-    if (code == SQLITE_OK) code = sqlite3_declare_vtab(db, "CREATE TABLE npss_watch (nothing)");
+    if (code == SQLITE_OK) code = sqlite3_declare_vtab(db, "CREATE TABLE npss_watch (unused)");
     if (code != SQLITE_OK) return code;
     if (!(self = sqlite3_malloc(sizeof *self))) return SQLITE_NOMEM;
     *self = (table){{0}, held};
