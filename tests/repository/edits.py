@@ -110,7 +110,7 @@ def main():
     words = parser.parse_args()
     tally = Tally()
     check_texts(tally)
-    names = names_with(RELEASE) if words.release else words.names
+    names = names_with(RELEASE) if words.release else [one for one in words.names if edits_of(one, RELEASE)]
     if words.changed:
         names = changed()
         if names is None:
