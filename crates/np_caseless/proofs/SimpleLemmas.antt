@@ -1,10 +1,10 @@
 -- What a text is made into by images that stand for its code points whatever is around them.
-use Rattle.std.proofs.Common.{◌≡◌, ℕ, ◌+◌, ◌*◌, ◌/◌, ◌%◌, ◌<◌, ◌≤◌, List, [], ◌∷◌, ◌++◌, append_assoc, drop, get_or, length, length-append, replicate, slice_set, take, arith, chars, encode_utf8, encode_utf8_all, IsUtf8, refl, sym, ap, ap₂, subst, ◌∙◌, inl, inr}
+use Rattle.std.proofs.Common.{◌≡◌, ℕ, ◌+◌, ◌*◌, ◌/◌, ◌%◌, ◌<◌, ◌≤◌, ◌&&◌, ◌≢◌, Bool, true, false, List, [], ◌∷◌, ◌++◌, append_assoc, drop, get_or, length, length-append, replicate, slice_set, take, arith, chars, encode_utf8, encode_utf8_all, IsUtf8, refl, sym, ap, ap₂, subst, ◌∙◌, inl, inr}
 use Rattle.std.proofs.Math.Seq.{drop-append_seam, take-append_seam}
-use Rattle.std.proofs.lemmas.Bool.{and_from}
+use Rattle.std.proofs.lemmas.Bool.{and_from, and_parts}
 use Rattle.std.proofs.lemmas.Grind.{flat_map-append}
-use Rattle.std.proofs.lemmas.List.{append-nil, drop-drop, drop_more, get_or-drop, get_or-replicate, get_or-set_other, get_or-set_same, length-drop, length-replicate, length-set, take_more_set}
-use Rattle.std.proofs.lemmas.List.Elements.{All-append, All-drop, All-nil, All-take}
+use Rattle.std.proofs.lemmas.List.{take_at, append-nil, drop-drop, drop_more, get_or-drop, get_or-replicate, get_or-set_other, get_or-set_same, length-drop, length-replicate, length-set, length-take, take_more_set, take-append-drop}
+use Rattle.std.proofs.lemmas.List.Elements.{All-append, All-cons, All-drop, All-nil, All-take}
 use Rattle.std.proofs.lemmas.List.Folds.{list_all-append}
 use Rattle.std.proofs.lemmas.Str.{chars-nil, chars_from_encodes, encodes-chars, IsUtf8-append, IsUtf8-nil}
 use Rattle.np_code_points.specs.Forms.{is_compat}
@@ -14,34 +14,24 @@ use Rattle.np_code_points.proofs.LineGrammar.{not_byte}
 use Rattle.np_forms.specs.Assigned.{IsAssigned}
 use Rattle.np_forms.specs.Forms.{IsNormalForm}
 use Rattle.np_forms.specs.inside.NormalForms.{normal_form}
-use Rattle.np_forms.specs.inside.Readings.{IsRead}
-use Rattle.np_forms.proofs.CopyLemmas.{normal_form-nil, parts-at}
+use Rattle.np_forms.proofs.CopyLemmas.{IsUtf8-front, normal_form-nil, parts-at}
 use Rattle.np_forms.proofs.FormLemmas.{IsNormalForm-value, normal_form_is}
 use Rattle.np_forms.proofs.TextLemmas.{IsRead-next, IsRead-start}
+use Rattle.np_forms.proofs.Words.{IsUtf8-past_char}
 use Rattle.np_versions.specs.Versions.{is_assigned}
-use Rattle.np_versions.proofs.Words.{cases_eq}
-use Rattle.np_versions.proofs.Utf8Lemmas.{BeginsWith, begins_with_three, begins_with_two, encode_one}
+use Rattle.np_versions.proofs.Words.{cases_eq, cases_lt}
+use Rattle.np_versions.proofs.Utf8Lemmas.{BeginsWith, begins_with_three, begins_with_two, encode_four, encode_one, encode_three, encode_two}
 use Rattle.np_caseless.specs.Caseless.{IsCaseless}
 use Rattle.np_caseless.specs.Conditions.{IsSoundFolding}
 use Rattle.np_caseless.specs.Folded.{FoldedVersion}
 use Rattle.np_caseless.specs.inside.Images.{AreImages}
 use Rattle.np_caseless.specs.SimpleKeys.{AddsNoControl, IsSimpleKey}
-use Rattle.np_caseless.specs.inside.SimpleImages.{AreSimple, IsCodeAt, IsImageWritten, StandsFor, IsSimple, bytes_of, listed}
+use Rattle.np_caseless.specs.inside.SimpleImages.{AreSimple, IsApart, IsCodeAt, StandsFor, IsSimple, bytes_of, listed}
+use Rattle.np_caseless.specs.inside.SimpleTexts.{AreOwn, IsCodeWritten, IsMadeOfFront}
 use Rattle.np_caseless.specs.declared.simple_images.SimpleImage.{SimpleImage}
+use Rattle.np_caseless.specs.declared.simple_texts.KnownImages.{KnownImages}
 use Rattle.np_caseless.proofs.AssignedLemmas.{images_assigned}
 use Rattle.np_caseless.proofs.ImageLemmas.{encoded_text, images_more, IsCaseless-images, no_images}
-
--- bytes are those that stand for what was read of a text
-pub record IsSimplyMade (v : FoldedVersion) (form : Form) (text rest made : List ℕ) : Type 0 where
-  pub read : List ℕ
-  pub ys : List ℕ
-  pub reads : IsRead text rest read
-  pub bytes : made ≡ encode_utf8_all ys
-  pub utf8 : IsUtf8 made
-  pub images : AreImages v (is_compat form) read ys
-  pub own : normal_form v.version form ys ≡ ys
-  pub assigned : IsAssigned v.version ys
-  pub ends : AddsNoControl (encode_utf8_all read) made
 
 -- what holds of each in a list holds of each in its parts
 front_free : (b : ℕ) (xs ys : List ℕ) → HasNo b (xs ++ ys) → HasNo b xs
@@ -50,9 +40,13 @@ front_free b xs ys h = subst (HasNo b) (take-append_seam xs ys) (All-take (not_b
 back_free : (b : ℕ) (xs ys : List ℕ) → HasNo b (xs ++ ys) → HasNo b ys
 back_free b xs ys h = subst (HasNo b) (drop-append_seam xs ys) (All-drop (not_byte b) (length xs) (xs ++ ys) h)
 
+-- the bytes of one code point
+pub one_code : (code : ℕ) (own : List ℕ) → own ≡ encode_utf8 code → IsUtf8 own → code ∷ [] ≡ chars own
+one_code code own is utf8 = chars_from_encodes (code ∷ []) own utf8 (append-nil (encode_utf8 code) ∙ sym is)
+
 module _ (v : FoldedVersion) (sound : IsSoundFolding v) (form : Form) where
   -- nothing was read yet
-  pub simple_start : (text : List ℕ) → IsUtf8 text → IsSimplyMade v form text text []
+  pub simple_start : (text : List ℕ) → IsUtf8 text → IsMadeOfFront v form true text text []
   simple_start text utf8 = record {
     read = [];
     ys = [];
@@ -60,58 +54,85 @@ module _ (v : FoldedVersion) (sound : IsSoundFolding v) (form : Form) where
     bytes = refl;
     utf8 = IsUtf8-nil;
     images = no_images v (is_compat form);
-    own = normal_form-nil v.version form;
-    assigned = refl;
+    own = λ t. normal_form-nil v.version form;
+    assigned = λ t. refl;
     ends = λ b low none. All-nil (not_byte b);
   }
 
   -- what stands for one more code point follows
-  pub simple_next : (text rest later made piece after : List ℕ) (code : ℕ) → IsSimplyMade v form text rest made → rest ≡ encode_utf8 code ++ later
-      → StandsFor v form code piece → after ≡ made ++ piece → IsSimplyMade v form text later after
-  simple_next text rest later made piece after code m begins stands more =
+  simple_next : (before more : Bool) (text rest later made piece after : List ℕ) (code : ℕ) → IsMadeOfFront v form before text rest made
+      → rest ≡ encode_utf8 code ++ later → IsUtf8 piece → AreImages v (is_compat form) (code ∷ []) (chars piece) → (more ≡ true → IsApart v form piece)
+      → AddsNoControl (encode_utf8 code) piece → after ≡ made ++ piece → IsMadeOfFront v form (before && more) text later after
+  simple_next before more text rest later made piece after code m begins utf8 images apart ends is =
       let zs = chars piece in
       let nf = normal_form v.version form in
-      let same : zs ≡ nf zs = normal_form_is v.version sound.version form zs zs stands.apart.own in
       let split : encode_utf8_all (m.read ++ code ∷ []) ≡ encode_utf8_all m.read ++ encode_utf8 code =
       flat_map-append encode_utf8 m.read (code ∷ []) ∙ ap (λ l. encode_utf8_all m.read ++ l) (append-nil (encode_utf8 code)) in
       record {
         read = m.read ++ code ∷ [];
         ys = m.ys ++ zs;
         reads = IsRead-next text rest code later m.read begins m.reads;
-        bytes = encoded_text made after m.ys piece zs m.bytes (sym (encodes-chars piece stands.utf8)) more;
-        utf8 = subst IsUtf8 (sym more) (IsUtf8-append made piece m.utf8 stands.utf8);
-        images = images_more v (is_compat form) m.read m.ys (code ∷ []) zs m.images stands.images;
-        own = parts-at v.version sound.version form m.ys zs stands.apart.begins ∙ ap₂ (λ a b. a ++ b) m.own (sym same);
-        assigned = list_all-append (is_assigned v.version) m.ys zs ∙ and_from _ _ m.assigned stands.apart.assigned;
+        bytes = encoded_text made after m.ys piece zs m.bytes (sym (encodes-chars piece utf8)) is;
+        utf8 = subst IsUtf8 (sym is) (IsUtf8-append made piece m.utf8 utf8);
+        images = images_more v (is_compat form) m.read m.ys (code ∷ []) zs m.images images;
+        own = λ t.
+            let both = and_parts before more t in
+            let one = apart both.1 in
+            let same : zs ≡ nf zs = normal_form_is v.version sound.version form zs zs one.own in
+            parts-at v.version sound.version form m.ys zs one.begins ∙ ap₂ (λ a b. a ++ b) (m.own both.0) (sym same);
+        assigned = λ t.
+            let both = and_parts before more t in
+            list_all-append (is_assigned v.version) m.ys zs ∙ and_from _ _ (m.assigned both.0) (apart both.1).assigned;
         ends = λ b low none.
             let both = subst (HasNo b) split none in
-            subst (HasNo b) (sym more)
+            subst (HasNo b) (sym is)
             (All-append (not_byte b) made piece (m.ends b low (front_free b (encode_utf8_all m.read) (encode_utf8 code) both))
-            (stands.ends b low (back_free b (encode_utf8_all m.read) (encode_utf8 code) both)));
+            (ends b low (back_free b (encode_utf8_all m.read) (encode_utf8 code) both)));
       }
 
-  -- nothing follows
-  pub simple_whole : (text rest made : List ℕ) → IsSimplyMade v form text rest made → rest ≡ [] → IsSimpleKey v form text made
-  simple_whole text rest made m none =
-      let all : chars text ≡ m.read = m.reads.split ∙ ap (λ l. m.read ++ l) (ap chars none ∙ chars-nil) ∙ append-nil m.read in
-      let of_text : text ≡ encode_utf8_all m.read = m.reads.bytes ∙ ap (λ l. encode_utf8_all m.read ++ l) none ∙ append-nil (encode_utf8_all m.read) in
+  -- what stands for the code point at a place was written there
+  pub written_next : (known : KnownImages) (before more : Bool) (text : List ℕ) (at count : ℕ) (room after : List ℕ) → AreSimple v form known.simple.now
+      → AreOwn v (is_compat form) known.own.now → IsCodeWritten known text at count more room after → IsMadeOfFront v form before text (drop at text) (take at room)
+      → IsMadeOfFront v form (before && more) text (drop (at + count) text) (take (at + count) after)
+  written_next known before more text at count room after simple own w m =
+      elim w.is [
+        | inl image ↦
+            let stands = subst (λ l. StandsFor v form w.code l) (ap (λ n. bytes_of n (listed known.simple.now w.code)) w.here.size ∙ sym image.bytes) (simple w.code image.within image.known) in
+            simple_next before more text (drop at text) (drop (at + count) text) (take at room) w.piece (take (at + count) after) w.code m w.here.begins stands.utf8 stands.images
+            (λ t. stands.apart) stands.ends w.written
+        | inr kept ↦
+            let scalar : IsUtf8 w.piece = subst IsUtf8 (sym kept.1.bytes) (IsUtf8-front (drop at text) (encode_utf8 w.code) (drop (at + count) text) w.here.begins m.reads.utf8
+            (IsUtf8-past_char (drop at text) (drop (at + count) text) w.code m.reads.utf8 w.here.begins)) in
+            let alone : chars w.piece ≡ w.code ∷ [] = sym (one_code w.code w.piece kept.1.bytes scalar) in
+            simple_next before more text (drop at text) (drop (at + count) text) (take at room) w.piece (take (at + count) after) w.code m w.here.begins scalar
+            (subst (AreImages v (is_compat form) (w.code ∷ [])) (sym alone) (own w.code kept.1.marked)) (λ t. let bad : false ≡ true = sym kept.0 ∙ t in absurd (cc))
+            (λ b low none. subst (HasNo b) (sym kept.1.bytes) none) w.written
+      ]
+
+  -- the front of a text was made into its own form
+  pub front_key : (apart : Bool) (text made : List ℕ) (n : ℕ) → IsUtf8 text → n ≤ length text → IsMadeOfFront v form apart text (drop n text) made
+      → IsNormalForm v.version form (chars made) (chars made) → IsAssigned v.version (chars made) → IsSimpleKey v form (take n text) made
+  front_key apart text made n utf8 within m normal assigned =
+      let xs = encode_utf8_all m.read in
+      let size : n ≡ length xs = omega (arith, within, ap length m.reads.bytes, length-append xs (drop n text), length-drop n text) in
+      let front : take n text ≡ xs = ap (take n) m.reads.bytes ∙ take_at xs (drop n text) n (sym size) in
+      let utf8_front : IsUtf8 (take n text) = subst IsUtf8 (sym front) (IsUtf8-front text xs (drop n text) m.reads.bytes utf8 m.reads.utf8) in
+      let all : chars (take n text) ≡ m.read = sym (chars_from_encodes m.read (take n text) utf8_front (sym front)) in
       let codes : m.ys ≡ chars made = chars_from_encodes m.ys made m.utf8 (sym m.bytes) in
-      let normal : IsNormalForm v.version form m.ys m.ys = IsNormalForm-value v.version sound.version form m.ys m.ys (sym m.own) in
+      let images = subst (AreImages v (is_compat form) m.read) codes m.images in
       record {
         utf8 = m.utf8;
-        caseless =
-            subst (λ xs. IsCaseless v form xs (chars made)) (sym all)
-            (subst (IsCaseless v form m.read) codes (IsCaseless-images v sound.version form m.read m.ys m.ys m.images normal));
-        assigned = subst (IsAssigned v.version) (sym all) (images_assigned v sound (is_compat form) m.read m.ys m.images m.assigned);
-        ends = λ b low free. m.ends b low (subst (HasNo b) of_text free);
+        caseless = subst (λ xs. IsCaseless v form xs (chars made)) (sym all) (IsCaseless-images v sound.version form m.read (chars made) (chars made) images normal);
+        assigned = subst (IsAssigned v.version) (sym all) (images_assigned v sound (is_compat form) m.read (chars made) images assigned);
+        ends = λ b low free. m.ends b low (subst (HasNo b) front free);
       }
 
-  -- the image of the code point at a place was written there
-  pub written_next : (list : List SimpleImage) (text : List ℕ) (at count : ℕ) (before after : List ℕ) → AreSimple v form list → IsImageWritten list text at count before after
-      → IsSimplyMade v form text (drop at text) (take at before) → IsSimplyMade v form text (drop (at + count) text) (take (at + count) after)
-  written_next list text at count before after simple w m =
-      let stands = subst (λ n. StandsFor v form w.code (bytes_of n (listed list w.code))) w.here.size (simple w.code w.within w.known) in
-      simple_next text (drop at text) (drop (at + count) text) (take at before) (bytes_of count (listed list w.code)) (take (at + count) after) w.code m w.here.begins stands w.written
+  -- what stands apart is its own form
+  pub apart_key : (text made : List ℕ) (n : ℕ) → IsUtf8 text → n ≤ length text → IsMadeOfFront v form true text (drop n text) made → IsSimpleKey v form (take n text) made
+  apart_key text made n utf8 within m =
+      let codes : m.ys ≡ chars made = chars_from_encodes m.ys made m.utf8 (sym m.bytes) in
+      let normal : IsNormalForm v.version form m.ys m.ys = IsNormalForm-value v.version sound.version form m.ys m.ys (sym (m.own refl)) in
+      front_key true text made n utf8 within m (subst (λ ys. IsNormalForm v.version form ys ys) codes normal) (subst (IsAssigned v.version) codes (m.assigned refl))
 
 -- what stands for a code point, as an image
 pub stands_listed : (v : FoldedVersion) (form : Form) (code : ℕ) (own bytes : List ℕ) (image : SimpleImage) → own ≡ encode_utf8 code → bytes_of (length own) image ≡ bytes
@@ -209,6 +230,82 @@ module _ (room : List ℕ) (at x y z : ℕ) where
       ∙ ap (λ l. l ++ z ∷ []) (put_two (omega (arith, fits)))
       ∙ append_assoc (take at room) (x ∷ y ∷ []) (z ∷ [])
 
--- the bytes of one code point
-pub one_code : (code : ℕ) (own : List ℕ) → own ≡ encode_utf8 code → IsUtf8 own → code ∷ [] ≡ chars own
-one_code code own is utf8 = chars_from_encodes (code ∷ []) own utf8 (append-nil (encode_utf8 code) ∙ sym is)
+-- ---- bytes that stop
+
+-- a byte beyond ASCII, and then others
+free_more : (stop b : ℕ) (bs : List ℕ) → stop < 128 → 128 ≤ b → HasNo stop bs → HasNo stop (b ∷ bs)
+free_more stop b bs ascii high free = All-cons (not_byte stop) b bs (λ e. absurd (omega (arith, e, ascii, high))) free
+
+-- no character but that of ASCII itself has a byte of ASCII
+free_code : (stop code : ℕ) → stop < 128 → code ≢ stop → HasNo stop (encode_utf8 code)
+free_code stop code ascii other =
+    let more = λ (b : ℕ) (bs : List ℕ) (high : 128 ≤ b) (free : HasNo stop bs). free_more stop b bs ascii high free in
+    let none = All-nil (not_byte stop) in
+    let last = code % 64 in
+    let middle = code / 64 % 64 in
+    let end = more (128 + last) [] (omega arith) none in
+    let two = more (128 + middle) ((128 + last) ∷ []) (omega arith) end in
+    elim (cases_lt code 0x80) [
+      | inl one ↦ subst (HasNo stop) (sym (encode_one code one)) (All-cons (not_byte stop) code [] other none)
+      | inr some ↦
+          elim (cases_lt code 0x800) [
+            | inl few ↦ subst (HasNo stop) (sym (encode_two code some few)) (more (192 + code / 64) ((128 + last) ∷ []) (omega arith) end)
+            | inr many ↦
+                elim (cases_lt code 0x10000) [
+                  | inl three ↦ subst (HasNo stop) (sym (encode_three code many three)) (more (224 + code / 4096) ((128 + middle) ∷ (128 + last) ∷ []) (omega arith) two)
+                  | inr four ↦
+                      subst (HasNo stop) (sym (encode_four code four))
+                      (more (240 + code / 262144) ((128 + code / 4096 % 64) ∷ (128 + middle) ∷ (128 + last) ∷ []) (omega arith)
+                      (more (128 + code / 4096 % 64) ((128 + middle) ∷ (128 + last) ∷ []) (omega arith) two))
+                ]
+          ]
+    ]
+
+-- what was read goes on by a character
+pub front_grows : (text : List ℕ) (at count code : ℕ) → IsCodeAt text at count code → take (at + count) text ≡ take at text ++ encode_utf8 code
+front_grows text at count code here =
+    let rest = drop (at + count) text in
+    let whole : text ≡ (take at text ++ encode_utf8 code) ++ rest =
+    sym (take-append-drop at text) ∙ ap (λ l. take at text ++ l) here.begins ∙ sym (append_assoc (take at text) (encode_utf8 code) rest) in
+    let size : length (take at text ++ encode_utf8 code) ≡ at + count =
+    omega (arith, here.size, here.long, length-take at text, length-append (take at text) (encode_utf8 code)) in
+    ap (take (at + count)) whole ∙ take_at (take at text ++ encode_utf8 code) rest (at + count) size
+
+pub free_next : (stop : ℕ) (text : List ℕ) (at count code : ℕ) → stop < 128 → get_or text at 0 ≢ stop → IsCodeAt text at count code → 0 < count → HasNo stop (take at text)
+    → HasNo stop (take (at + count) text)
+free_next stop text at count code ascii other here some free =
+    let keeps = not_byte stop in
+    let first : code < 128 → code ≡ get_or text at 0 = λ low.
+    sym (ap (λ n. get_or text n 0) (omega arith) ∙ sym (get_or-drop at text 0 0) ∙ ap (λ l. get_or l 0 0) (here.begins ∙ ap (λ l. l ++ drop (at + count) text) (encode_one code low))) in
+    let apart : code ≢ stop = λ e. other (sym (first (omega (arith, e, ascii))) ∙ e) in
+    subst (HasNo stop) (sym (front_grows text at count code here)) (All-append keeps (take at text) (encode_utf8 code) free (free_code stop code ascii apart))
+
+-- ---- the bytes of a character
+
+-- as the bytes of an image
+pub own_is : (bytes : List ℕ) (at count code second third : ℕ) → IsCodeAt bytes at count code → 0 < count → count ≤ 3 → (1 < count → second ≡ get_or bytes (at + 1) 0)
+    → (2 < count → third ≡ get_or bytes (at + 2) 0) → take count (get_or bytes at 0 ∷ second ∷ third ∷ []) ≡ encode_utf8 code
+own_is bytes at count code second third here some few one two =
+    let front : take count (drop at bytes) ≡ encode_utf8 code =
+    ap (take count) here.begins ∙ take_at (encode_utf8 code) (drop (at + count) bytes) count here.size in
+    let first_is : drop at bytes ≡ get_or bytes at 0 ∷ drop (at + 1) bytes = drop_more bytes at 0 (omega (arith, some, here.long)) in
+    elim (cases_lt 1 count) [
+      | inr lone ↦
+          let n : count ≡ 1 = omega (arith, lone, some) in
+          ap (λ n. take n (get_or bytes at 0 ∷ second ∷ third ∷ [])) n ∙ sym (ap (λ n. take n (drop at bytes)) n ∙ ap (take 1) first_is) ∙ front
+      | inl more ↦
+          let next_is : drop (at + 1) bytes ≡ get_or bytes (at + 1) 0 ∷ drop (at + 1 + 1) bytes = drop_more bytes (at + 1) 0 (omega (arith, more, here.long)) in
+          let both : drop at bytes ≡ get_or bytes at 0 ∷ second ∷ drop (at + 2) bytes =
+          first_is ∙ ap (λ l. get_or bytes at 0 ∷ l) (next_is ∙ ap₂ (λ b n. b ∷ drop n bytes) (sym (one more)) (omega arith)) in
+          elim (cases_lt 2 count) [
+            | inr pair ↦
+                let n : count ≡ 2 = omega (arith, pair, more) in
+                ap (λ n. take n (get_or bytes at 0 ∷ second ∷ third ∷ [])) n ∙ sym (ap (λ n. take n (drop at bytes)) n ∙ ap (take 2) both) ∙ front
+            | inl whole ↦
+                let n : count ≡ 3 = omega (arith, whole, few) in
+                let last_is : drop (at + 2) bytes ≡ get_or bytes (at + 2) 0 ∷ drop (at + 2 + 1) bytes = drop_more bytes (at + 2) 0 (omega (arith, whole, here.long)) in
+                let all : drop at bytes ≡ get_or bytes at 0 ∷ second ∷ third ∷ drop (at + 2 + 1) bytes =
+                both ∙ ap (λ l. get_or bytes at 0 ∷ second ∷ l) (last_is ∙ ap (λ b. b ∷ drop (at + 2 + 1) bytes) (sym (two whole))) in
+                ap (λ n. take n (get_or bytes at 0 ∷ second ∷ third ∷ [])) n ∙ sym (ap (λ n. take n (drop at bytes)) n ∙ ap (take 3) all) ∙ front
+          ]
+    ]

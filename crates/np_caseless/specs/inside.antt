@@ -7,4 +7,5 @@ pub mod Images
 pub mod Keys
 pub mod Leasts
 pub mod SimpleImages
+pub mod SimpleTexts
 pub mod Unfolded

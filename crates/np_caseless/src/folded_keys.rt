@@ -1,8 +1,10 @@
 //! Caseless keys by the images of code points.
-ghost use Rattle.std.specs.Prelude.{◌≡◌, chars, string_bytes, IfOk, IfErr, IfSome, IsSome, IsTrue, OnOk};
+ghost use Rattle.std.specs.Prelude.{◌≡◌, ◌<◌, ◌≤◌, chars, get_or, length, string_bytes, take, IfOk, IfErr, IfSome, IsSome, IsTrue, OnOk};
 ghost use Rattle.std.specs.Cow.{cow_str_bytes};
 ghost use Rattle.np_forms.specs.Assigned.{IsAssigned};
 ghost use Rattle.np_forms.specs.Faults.{IsNpssFault};
+ghost use Rattle.np_forms.specs.Forms.{IsNormalForm};
+ghost use Rattle.np_code_points.specs.Lines.{HasNo};
 ghost use Rattle.np_caseless.specs.Caseless.{IsCaseless};
 ghost use Rattle.np_caseless.specs.SimpleKeys.{IsSimpleKey};
 
@@ -10,11 +12,13 @@ use crate::ascii::folded_text;
 use crate::folded_tables::FoldedTable;
 use crate::image_texts::{are_marked, image_text};
 use crate::keys::caseless_key;
+use crate::simple_texts::write_front;
 use np_code_points::{Form, Memory};
 use np_forms::{NpssFault, first_unassigned_char, into_npss, lend_npss, quick_check_span};
 use np_versions::{NormTable, ascii_front};
 use std::alloc::Global;
 use std::borrow::CowStr;
+use std::str::from_utf8_unchecked;
 
 /// Why a text has no key where memory ran out: a code point is not assigned, which takes no memory to tell, or else that.
 fn refusal<T: NormTable>(table: &T, text: &str) -> NpssFault
@@ -27,13 +31,57 @@ fn refusal<T: NormTable>(table: &T, text: &str) -> NpssFault
 }
 
 impl<T: NormTable + Drop> FoldedTable<T> {
+    /// Whether a text is known to be its own form, and assigned.
+    fn is_own_form(&self, wanted: Form, text: &str) -> bool
+        ensures form { IsTrue result → IsNormalForm self.now.version wanted (chars text.now) (chars text.now) }
+        ensures assigned { IsTrue result → IsAssigned self.now.version (chars text.now) }
+    {
+        quick_check_span(self.table(), wanted, text) == text.len()
+    }
+
     /// Whether a text is known to be its own caseless key. Takes no memory.
     pub fn is_own_key(&self, wanted: Form, text: &str) -> bool
         ensures { IsTrue result → IsSimpleKey self.now wanted text.now text.now }
     {
         self.meets_conditions();
         are_marked(self.images(wanted.compat()).own.as_slice(), text)
-            && quick_check_span(self.table(), wanted, text) == text.len()
+            && self.is_own_form(wanted, text)
+    }
+
+    /// Writes the caseless key of what stands before the first `stop` in a text, or of all where there is none, to the front of
+    /// the room, where each code point there has an image of as many bytes. Answers how many bytes it has; none where it wasn't
+    /// made so, and then anything may stand in the room.
+    #[inline(always)]
+    pub fn write_key_before(
+        &self,
+        wanted: Form,
+        stop: u8,
+        text: &str,
+        room: &mut [u8],
+    ) -> Option<usize>
+        requires ascii { stop < 128 }
+        requires room { length text.now ≤ length room.now }
+        ensures length { length room.new ≡ length room.old }
+        ensures within { IfSome result (λ n. n ≤ length text.now) }
+        ensures free { IfSome result (λ n. HasNo stop (take n text.now)) }
+        ensures stop { IfSome result (λ n. n < length text.now → get_or text.now n 0 ≡ stop) }
+        ensures key { IfSome result (λ n. IsSimpleKey self.now wanted (take n text.now) (take n room.new)) }
+    {
+        self.meets_conditions();
+        let made = write_front(self.known_images(wanted), text, stop, room);
+        let count = made.count;
+        if count < text.len() && text.as_bytes()[count] != stop {
+            return None;
+        }
+        if made.apart {
+            return Some(count);
+        }
+        let key = unsafe { from_utf8_unchecked(&room[..count]) };
+        if self.is_own_form(wanted, key) {
+            Some(count)
+        } else {
+            None
+        }
     }
 
     /// The caseless key of a text by the images of its code points that are as long, where all have one.
@@ -48,7 +96,10 @@ impl<T: NormTable + Drop> FoldedTable<T> {
     {
         let mut room = Vec::new(alloc);
         room.resize(text.len(), 0)?;
-        if !self.write_key(wanted, text, room.as_mut_slice()) {
+        let Some(count) = self.write_key_before(wanted, 0, text, room.as_mut_slice()) else {
+            return Ok(None);
+        };
+        if count < text.len() {
             return Ok(None);
         }
         Ok(Some(unsafe { String::from_utf8_unchecked(room) }))

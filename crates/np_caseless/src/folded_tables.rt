@@ -6,8 +6,9 @@ ghost use Rattle.np_caseless.specs.Folded.{folded_by};
 ghost use Rattle.np_caseless.specs.inside.AsciiFoldings.{FoldsAscii, LowersAscii};
 ghost use Rattle.np_caseless.specs.inside.FirstFaults.{AreMapped};
 ghost use Rattle.np_caseless.specs.inside.ImageTables.{AreAllImages};
-ghost use Rattle.np_caseless.specs.SimpleKeys.{IsSimpleKey};
-ghost use Rattle.np_caseless.specs.inside.SimpleImages.{AreOfForms};
+ghost use Rattle.np_caseless.specs.inside.SimpleImages.{AreOfForm, AreOfForms};
+ghost use Rattle.np_caseless.specs.inside.SimpleTexts.{AreOwn};
+ghost use Rattle.np_code_points.specs.Forms.{is_compat};
 ghost use Rattle.np_caseless.specs.declared.faults.ConditionFault.TheVariants.{Memory as OutOfMemory};
 
 use crate::ascii::{are_lowercases, ascii_foldings};
@@ -16,7 +17,7 @@ use crate::first_faults::first_fault;
 use crate::image_tables::Images;
 use crate::mapped_rows::mapped_codes;
 use crate::simple_images::SimpleImages;
-use crate::simple_texts::write_images;
+use crate::simple_texts::KnownImages;
 use np_code_points::Form;
 use np_foldings::{Foldings, Lowercase};
 use np_versions::NormTable;
@@ -141,10 +142,21 @@ impl<T: NormTable + Drop> FoldedTable<T> {
     }
 
     /// The images that are as long as their code points.
-    pub(crate) fn simple_images(&self) -> &SimpleImages
+    fn simple_images(&self) -> &SimpleImages
         ensures { AreOfForms self.now result.now }
     {
         &self.simple
+    }
+
+    /// The images that are known where a key of the form is made code point by code point.
+    pub(crate) fn known_images(&self, wanted: Form) -> KnownImages<'_>
+        ensures simple { AreOfForm self.now wanted result.simple.now }
+        ensures own { AreOwn self.now (is_compat wanted) result.own.now }
+    {
+        KnownImages {
+            simple: self.simple_images().by_form(wanted),
+            own: self.images(wanted.compat()).own.as_slice(),
+        }
     }
 
     /// What each character of ASCII folds to, at its place, where that makes the caseless keys of texts of ASCII under each form:
@@ -156,17 +168,6 @@ impl<T: NormTable + Drop> FoldedTable<T> {
             Some(bytes) => Some(bytes.as_slice()),
             None => None,
         }
-    }
-
-    /// Writes the caseless key of a text to as much room, where each of its code points has an image that is as long and stands
-    /// for it whatever is around it; answers whether it was written. Where it wasn't, anything may stand there.
-    pub fn write_key(&self, wanted: Form, text: &str, room: &mut [u8]) -> bool
-        requires { length room.now ≡ length text.now }
-        ensures length { length room.new ≡ length room.old }
-        ensures key { IsTrue result → IsSimpleKey self.now wanted text.now room.new }
-    {
-        self.meets_conditions();
-        write_images(self.simple_images().by_form(wanted), text, room)
     }
 
     /// The same, where these are the lowercases of ASCII.

@@ -11,13 +11,21 @@ use np_code_points::Memory;
 use std::alloc::Global;
 
 /// Whether a code point is marked as its own image.
-pub(crate) fn is_marked(own: &[u8], code: char) -> bool
+#[inline(always)]
+pub(crate) fn is_marked_code(own: &[u8], code: usize) -> bool
     ensures { IsTrue result → IsMarked own.now code }
 {
-    match own.get(u32::from(code) as usize) {
+    match own.get(code) {
         Some(mark) => *mark == 1,
         None => false,
     }
+}
+
+/// Whether a character is.
+pub(crate) fn is_marked(own: &[u8], code: char) -> bool
+    ensures { IsTrue result → IsMarked own.now code }
+{
+    is_marked_code(own, u32::from(code) as usize)
 }
 
 /// Whether each code point of a text is.

@@ -1,1 +1,2 @@
 pub mod Unfolded
+pub mod Written

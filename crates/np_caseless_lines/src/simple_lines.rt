@@ -1,9 +1,8 @@
-//! Lines of which each code point has an image that is as long: they are answered unfolded, and then each answer is folded.
-ghost use Rattle.std.specs.Prelude.{◌≡◌, ◌++◌, ◌∷◌, [], ◌+◌, ℕ, List, drop, false, length, take, IfOk, IsTrue};
+//! Lines of which each code point has an image that is as long: their keys are written where the answers stand, one by one.
+ghost use Rattle.std.specs.Prelude.{◌≡◌, [], ◌*◌, ◌≤◌, ◌<◌, length, take, IfOk, IfSome};
 ghost use Rattle.np_caseless.specs.Caseless.{IsCaseless};
-ghost use Rattle.np_caseless.specs.SimpleKeys.{IsSimpleKey};
+ghost use Rattle.np_caseless_lines.specs.inside.Written.{IsLineWritten};
 ghost use Rattle.np_lines.specs.Answers.{IsAnswerBy};
-ghost use Rattle.np_lines.specs.Lines.{byte_of};
 ghost use Rattle.np_lines.specs.Pushed.{ArePushed};
 
 use crate::ascii::push_unfolded;
@@ -12,67 +11,145 @@ use np_code_points::{Form, Memory};
 use np_lines::{LIMIT, LineEnd, cut_line};
 use np_versions::NormTable;
 
-/// Writes the key of a line behind a place, where there is as much room; answers whether it was written.
-fn write_behind<T: NormTable + Drop>(
-    folded: &FoldedTable<T>,
-    form: Form,
-    line: &str,
-    from: usize,
-    room: &mut [u8],
-) -> bool
-    requires { from + length line.now ≡ length room.now }
-    ensures length { length room.new ≡ length room.old }
-    ensures front { take from room.new ≡ take from room.old }
-    ensures key { IsTrue result → IsSimpleKey folded.now form line.now (drop from room.new) }
-{
-    let (_front, behind) = room.split_at_mut(from);
-    folded.write_key(form, line, behind)
+/// How many bytes of a text are answered at once, at most: there is room for the answers of so many.
+const WINDOW: usize = 1000;
+
+/// What was answered of a text.
+#[derive(Clone, Copy)]
+struct WrittenLines<'a> {
+    /// What is left of it.
+    rest: &'a str,
+    /// How many bytes of answers there are.
+    count: usize,
 }
 
-/// Appends `=`, the key of a line and what ends it, where the key is made code point by code point; answers whether it was. Where
-/// it wasn't, nothing is appended.
-fn push_made<T: NormTable + Drop>(
+/// Writes `=`, the key of the first line of a text and what ends it to the front of the room, where the key is made code point by
+/// code point; answers how many bytes the line has.
+#[inline(always)]
+fn write_line<T: NormTable + Drop>(
     folded: &FoldedTable<T>,
     form: Form,
     end: LineEnd,
-    line: &str,
+    text: &str,
+    room: &mut [u8],
+) -> Option<usize>
+    requires { length text.now < length room.now }
+    ensures length { length room.new ≡ length room.old }
+    ensures written { IfSome result (λ n. IsLineWritten folded.now form end text.now n room.new) }
+{
+    let (mark, behind) = room.split_at_mut(1);
+    mark[0] = b'=';
+    let count = folded.write_key_before(form, end.byte(), text, behind)?;
+    if count >= text.len() || count > LIMIT {
+        return None;
+    }
+    behind[count] = end.byte();
+    Some(count)
+}
+
+/// Writes the answers to the lines at the front of a text whose keys are made so to the front of the room.
+fn write_lines<'a, T: NormTable + Drop>(
+    folded: &FoldedTable<T>,
+    form: Form,
+    end: LineEnd,
+    text: &'a str,
+    room: &mut [u8],
+) -> WrittenLines<'a>
+    requires { 2 * length text.now ≤ length room.now }
+    ensures length { length room.new ≡ length room.old }
+    ensures within { result.count ≤ length room.new }
+    ensures pushed { ArePushed (IsAnswerBy (IsCaseless folded.now form) folded.now.version end) end text.now result.rest.now [] (take result.count room.new) }
+{
+    let mut written = WrittenLines {
+        rest: text,
+        count: 0,
+    };
+    'lines: while !written.rest.is_empty() {
+        let (_front, behind) = room.split_at_mut(written.count);
+        let Some(count) = write_line(folded, form, end, written.rest, behind) else {
+            return written;
+        };
+        written.rest = &written.rest[count + 1..];
+        written.count += count + 2;
+    }
+    written
+}
+
+/// Appends the answers to the lines at the front of a window of a text whose keys are made so, and answers what is left of it.
+fn push_window<'a, T: NormTable + Drop>(
+    folded: &FoldedTable<T>,
+    form: Form,
+    end: LineEnd,
+    window: &'a str,
     out: &mut Vec<u8>,
-) -> Result<bool, Memory>
-    ensures pushed { IfOk result (λ is. IsTrue is → (key : List ℕ) × IsSimpleKey folded.now form line.now key
-        × (out.new.items ≡ out.old.items ++ (61 ∷ key ++ byte_of end ∷ []))) }
-    ensures kept { IfOk result (λ is. is ≡ false → out.new.items ≡ out.old.items) }
+) -> Result<&'a str, Memory>
+    requires { length window.now ≤ 1000 }
+    ensures { IfOk result (λ rest. ArePushed (IsAnswerBy (IsCaseless folded.now form) folded.now.version end) end
+        window.now rest.now out.old.items out.new.items) }
 {
     let from = out.len();
-    out.push(b'=')?;
-    out.extend_from_slice(line.as_bytes())?;
-    if !write_behind(folded, form, line, from + 1, out.as_mut_slice()) {
-        out.truncate(from);
-        return Ok(false);
-    }
-    out.push(end.byte())?;
-    Ok(true)
+    out.resize(from + 2 * window.len(), 0)?;
+    let (_front, room) = out.as_mut_slice().split_at_mut(from);
+    let written = write_lines(folded, form, end, window, room);
+    let count = written.count;
+    out.truncate(from + count);
+    Ok(written.rest)
 }
 
-/// Appends the same of a line whose key is made so, or is the line.
-fn push_line<T: NormTable + Drop>(
+/// Appends the answers to some lines at the front of a text whose keys are made so, and answers what is left of it: the text
+/// where its first line's key isn't made so, or the line isn't short.
+fn push_made<'a, T: NormTable + Drop>(
     folded: &FoldedTable<T>,
     form: Form,
     end: LineEnd,
-    line: &str,
+    text: &'a str,
     out: &mut Vec<u8>,
-) -> Result<bool, Memory>
-    ensures pushed { IfOk result (λ is. IsTrue is → (key : List ℕ) × IsSimpleKey folded.now form line.now key
-        × (out.new.items ≡ out.old.items ++ (61 ∷ key ++ byte_of end ∷ []))) }
-    ensures kept { IfOk result (λ is. is ≡ false → out.new.items ≡ out.old.items) }
+) -> Result<&'a str, Memory>
+    ensures { IfOk result (λ rest. ArePushed (IsAnswerBy (IsCaseless folded.now form) folded.now.version end) end
+        text.now rest.now out.old.items out.new.items) }
 {
-    if push_made(folded, form, end, line, out)? {
-        return Ok(true);
-    }
-    if !folded.is_own_key(form, line) {
-        return Ok(false);
+    let (window, _behind) = text.split_at(text.floor_char_boundary(WINDOW));
+    let left = push_window(folded, form, end, window, out)?;
+    Ok(&text[window.len() - left.len()..])
+}
+
+/// Appends the answer to the first line of a text where its key is the line, and answers what is left of the text.
+fn push_own<'a, T: NormTable + Drop>(
+    folded: &FoldedTable<T>,
+    form: Form,
+    end: LineEnd,
+    text: &'a str,
+    out: &mut Vec<u8>,
+) -> Result<&'a str, Memory>
+    ensures { IfOk result (λ rest. ArePushed (IsAnswerBy (IsCaseless folded.now form) folded.now.version end) end
+        text.now rest.now out.old.items out.new.items) }
+{
+    let Some((line, behind)) = cut_line(text, end) else {
+        return Ok(text);
+    };
+    if line.len() > LIMIT || !folded.is_own_key(form, line) {
+        return Ok(text);
     }
     push_unfolded(out, line.as_bytes(), end)?;
-    Ok(true)
+    Ok(behind)
+}
+
+/// Appends the answers to some lines at the front of a text by either way, and answers what is left of it.
+fn push_some<'a, T: NormTable + Drop>(
+    folded: &FoldedTable<T>,
+    form: Form,
+    end: LineEnd,
+    text: &'a str,
+    out: &mut Vec<u8>,
+) -> Result<&'a str, Memory>
+    ensures { IfOk result (λ rest. ArePushed (IsAnswerBy (IsCaseless folded.now form) folded.now.version end) end
+        text.now rest.now out.old.items out.new.items) }
+{
+    let rest = push_made(folded, form, end, text, out)?;
+    if rest.len() < text.len() {
+        return Ok(rest);
+    }
+    push_own(folded, form, end, rest, out)
 }
 
 /// Answers the lines at the front of a text whose keys are made code point by code point, or are the lines, and answers what is
@@ -89,11 +166,9 @@ pub(crate) fn push_simple<'a, T: NormTable + Drop>(
 {
     let mut rest = text;
     'lines: loop {
-        let Some((line, behind)) = cut_line(rest, end) else {
-            return Ok(rest);
-        };
-        if line.len() > LIMIT || !push_line(folded, form, end, line, out)? {
-            return Ok(rest);
+        let behind = push_some(folded, form, end, rest, out)?;
+        if behind.len() >= rest.len() {
+            return Ok(behind);
         }
         rest = behind;
     }

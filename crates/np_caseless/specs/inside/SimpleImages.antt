@@ -66,11 +66,3 @@ pub record IsCodeAt (text : List ℕ) (at count code : ℕ) : Type 0 where
   pub begins : drop at text ≡ encode_utf8 code ++ drop (at + count) text
   pub long : at + count ≤ length text
   pub size : length (encode_utf8 code) ≡ count
-
--- its image is known, and was written to that place
-pub record IsImageWritten (list : List SimpleImage) (text : List ℕ) (at count : ℕ) (before after : List ℕ) : Type 0 where
-  pub code : ℕ
-  pub here : IsCodeAt text at count code
-  pub within : code < length list
-  pub known : (listed list code).first ≢ 0
-  pub written : take (at + count) after ≡ take at before ++ bytes_of count (listed list code)
