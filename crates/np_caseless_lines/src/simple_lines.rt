@@ -1,5 +1,5 @@
 //! Lines of which each code point has an image that is as long: their keys are written where the answers stand, one by one.
-ghost use Rattle.std.specs.Prelude.{◌≡◌, [], ◌*◌, ◌≤◌, ◌<◌, length, take, IfOk, IfSome};
+ghost use Rattle.std.specs.Prelude.{◌≡◌, [], ◌*◌, ◌≤◌, ◌<◌, length, take, IfOk, IfSome, IsUtf8};
 ghost use Rattle.np_caseless.specs.Caseless.{IsCaseless};
 ghost use Rattle.np_caseless_lines.specs.inside.Written.{IsLineWritten};
 ghost use Rattle.np_lines.specs.Answers.{IsAnswerBy};
@@ -59,6 +59,7 @@ fn write_lines<'a, T: NormTable + Drop>(
     ensures length { length room.new ≡ length room.old }
     ensures within { result.count ≤ length room.new }
     ensures pushed { ArePushed (IsAnswerBy (IsCaseless folded.now form) folded.now.version end) end text.now result.rest.now [] (take result.count room.new) }
+    ensures utf8 { IsUtf8 result.rest.now }
 {
     let mut written = WrittenLines {
         rest: text,
@@ -84,8 +85,9 @@ fn push_window<'a, T: NormTable + Drop>(
     out: &mut Vec<u8>,
 ) -> Result<&'a str, Memory>
     requires { length window.now ≤ 1000 }
-    ensures { IfOk result (λ rest. ArePushed (IsAnswerBy (IsCaseless folded.now form) folded.now.version end) end
+    ensures pushed { IfOk result (λ rest. ArePushed (IsAnswerBy (IsCaseless folded.now form) folded.now.version end) end
         window.now rest.now out.old.items out.new.items) }
+    ensures utf8 { IfOk result (λ rest. IsUtf8 rest.now) }
 {
     let from = out.len();
     out.resize(from + 2 * window.len(), 0)?;
@@ -105,8 +107,9 @@ fn push_made<'a, T: NormTable + Drop>(
     text: &'a str,
     out: &mut Vec<u8>,
 ) -> Result<&'a str, Memory>
-    ensures { IfOk result (λ rest. ArePushed (IsAnswerBy (IsCaseless folded.now form) folded.now.version end) end
+    ensures pushed { IfOk result (λ rest. ArePushed (IsAnswerBy (IsCaseless folded.now form) folded.now.version end) end
         text.now rest.now out.old.items out.new.items) }
+    ensures utf8 { IfOk result (λ rest. IsUtf8 rest.now) }
 {
     let (window, _behind) = text.split_at(text.floor_char_boundary(WINDOW));
     let left = push_window(folded, form, end, window, out)?;
@@ -121,8 +124,9 @@ fn push_own<'a, T: NormTable + Drop>(
     text: &'a str,
     out: &mut Vec<u8>,
 ) -> Result<&'a str, Memory>
-    ensures { IfOk result (λ rest. ArePushed (IsAnswerBy (IsCaseless folded.now form) folded.now.version end) end
+    ensures pushed { IfOk result (λ rest. ArePushed (IsAnswerBy (IsCaseless folded.now form) folded.now.version end) end
         text.now rest.now out.old.items out.new.items) }
+    ensures utf8 { IfOk result (λ rest. IsUtf8 rest.now) }
 {
     let Some((line, behind)) = cut_line(text, end) else {
         return Ok(text);
@@ -142,14 +146,15 @@ fn push_some<'a, T: NormTable + Drop>(
     text: &'a str,
     out: &mut Vec<u8>,
 ) -> Result<&'a str, Memory>
-    ensures { IfOk result (λ rest. ArePushed (IsAnswerBy (IsCaseless folded.now form) folded.now.version end) end
+    ensures pushed { IfOk result (λ rest. ArePushed (IsAnswerBy (IsCaseless folded.now form) folded.now.version end) end
         text.now rest.now out.old.items out.new.items) }
+    ensures utf8 { IfOk result (λ rest. IsUtf8 rest.now) }
 {
     let rest = push_made(folded, form, end, text, out)?;
     if rest.len() < text.len() {
         return Ok(rest);
     }
-    push_own(folded, form, end, rest, out)
+    Ok(push_own(folded, form, end, rest, out)?)
 }
 
 /// Answers the lines at the front of a text whose keys are made code point by code point, or are the lines, and answers what is

@@ -4,7 +4,8 @@ use Rattle.np_caseless.specs.Folded.{FoldedVersion}
 use Rattle.np_caseless.specs.SimpleKeys.{IsSimpleKey}
 use Rattle.np_code_points.specs.Lines.{HasNo}
 use Rattle.np_code_points.specs.declared.forms.Form.{Form}
-use Rattle.np_lines.specs.Lines.{LineEnd, byte_of}
+use Rattle.np_lines.specs.Lines.{byte_of}
+use Rattle.np_lines.specs.declared.lines.LineEnd.{LineEnd}
 
 -- a line of n bytes ends in a text, and '=' (61), its key and the byte that ends it stand at the front of the room
 pub record IsLineWritten (v : FoldedVersion) (form : Form) (end : LineEnd) (text : List ℕ) (n : ℕ) (room : List ℕ) : Type 0 where

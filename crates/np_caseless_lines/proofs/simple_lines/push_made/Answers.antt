@@ -1,20 +1,37 @@
-use Rattle.std.proofs.Common.{◌≡◌, ◌+◌, ◌++◌, ◌∷◌, [], drop, length, ap₂, ◌∙◌, arith}
-use Rattle.std.proofs.lemmas.List.{take_at}
-use Rattle.np_caseless_lines.proofs.SimpleLineLemmas.{pushed_is}
+use Rattle.std.proofs.Common.{◌≡◌, ◌++◌, ◌-◌, ap₂, length, refl, sym, subst, ◌∙◌, IsUtf8}
+use Rattle.std.proofs.lemmas.List.{take-append-drop}
+use Rattle.np_caseless.specs.Caseless.{IsCaseless}
+use Rattle.np_forms.proofs.Words.{IsUtf8-drop}
+use Rattle.np_lines.specs.Answers.{IsAnswerBy}
+use Rattle.np_lines.specs.Pushed.{ArePushed}
+use Rattle.np_caseless_lines.proofs.SimpleLineLemmas.{front_boundary, pushed_front}
 use Rattle.np_caseless_lines.proofs.simple_lines.push_made.Goals as goal
 
+pub range_from-requires : goal.range_from-requires
+range_from-requires g c = λ _.
+    let v = c.args.folded.now in
+    let text = c.args.text.now in
+    let cut = c.split_at in
+    let front = cut.result.0.now in
+    let behind = cut.result.1.now in
+    let n = c.floor_char_boundary.result in
+    let left = c.in_ok-left.left.now in
+    let whole : text ≡ front ++ behind = sym (ap₂ (λ a b. a ++ b) cut.ensures.front cut.ensures.back ∙ take-append-drop n text) in
+    let utf8 : IsUtf8 behind = subst IsUtf8 (sym cut.ensures.back) (IsUtf8-drop text n c.utf8.text c.floor_char_boundary.ensures.boundary) in
+    front_boundary (IsAnswerBy (IsCaseless v c.args.form) v.version c.args.end) c.args.end text front behind left c.args.out.now.items c.push_window.new.out.items
+    (length front - length left) whole refl c.in_ok-left.ensures.utf8 utf8 c.in_ok-left.ensures.pushed
+
 pub returns-clause-pushed : goal.returns-clause-pushed
-returns-clause-pushed g c = λ yes.
+returns-clause-pushed g c =
+    let v = c.args.folded.now in
+    let text = c.args.text.now in
+    let cut = c.split_at in
+    let front = cut.result.0.now in
+    let behind = cut.result.1.now in
+    let left = c.in_ok-left.left.now in
     let old = c.args.out.now.items in
-    let mid = c.extend_from_slice.new.self.items in
-    let room = c.write_behind.new.room in
-    let n = c.len-from.result in
-    let count : n ≡ length old = omega (arith, c.len-from.ensures, c.args.out.now.ok.0) in
-    let of_mid : mid ≡ (old ++ 61 ∷ []) ++ c.args.line.now = c.in_ok-extend_from_slice.ensures.items ∙ ap₂ (λ a b. a ++ b) c.in_ok-push.ensures.items c.as_bytes.ensures.value in
-    let whole : length room ≡ c.extend_from_slice.new.self.len = omega (arith, c.as_mut_slice.ensures.len, c.write_behind.ensures.length) in
-    let all = take_at room (drop (length room) mid) c.extend_from_slice.new.self.len (omega (arith, whole)) in
-    let more = c.in_ok-push-2.ensures.items ∙ ap₂ (λ l e. l ++ e ∷ []) all c.byte.ensures in (
-      drop (n + 1) room,
-      c.write_behind.ensures.key c.if-not-write_behind.false,
-      pushed_is old mid c.as_mut_slice.result.now room c.push-2.new.self.items c.args.line.now n _ count of_mid c.as_mut_slice.ensures.value c.write_behind.ensures.front more,
-    )
+    let new = c.push_window.new.out.items in
+    let Is = IsAnswerBy (IsCaseless v c.args.form) v.version c.args.end in
+    let whole : text ≡ front ++ behind = sym (ap₂ (λ a b. a ++ b) cut.ensures.front cut.ensures.back ∙ take-append-drop c.floor_char_boundary.result text) in
+    subst (λ l. ArePushed Is c.args.end text l old new) (sym c.range_from.ensures.value)
+    (pushed_front Is c.args.end text front behind left old new (length front - length left) whole refl c.in_ok-left.ensures.pushed)
