@@ -16,7 +16,7 @@ pub(crate) fn is_marked(own: &[u8], code: char) -> bool
 {
     match own.get(u32::from(code) as usize) {
         Some(mark) => *mark == 1,
-        None => false,
+        None => true,
     }
 }
 
