@@ -36,7 +36,8 @@ flat_map-flat_map f g [] = refl
 flat_map-flat_map f g (x ∷ xs) = flat_map-append f (g x) (flat_map g xs) ∙ ap (λ l. flat_map f (g x) ++ l) (flat_map-flat_map f g xs)
 
 -- what holds of each in two lists holds of each in what they are mapped to
-all_more : (p : ℕ → Bool) (f : ℕ → List ℕ) (xs ws : List ℕ) → list_all p (flat_map f xs) ≡ true → list_all p (flat_map f ws) ≡ true → list_all p (flat_map f (xs ++ ws)) ≡ true
+all_more : (p : ℕ → Bool) (f : ℕ → List ℕ) (xs ws : List ℕ) → list_all p (flat_map f xs) ≡ true → list_all p (flat_map f ws) ≡ true
+    → list_all p (flat_map f (xs ++ ws)) ≡ true
 all_more p f xs ws first second =
     ap (list_all p) (flat_map-append f xs ws) ∙ list_all-append p (flat_map f xs) (flat_map f ws) ∙ and_from _ _ first second
 
@@ -52,7 +53,8 @@ module _ (ccc : ℕ → ℕ) (to : ℕ → List ℕ) (ok : ℕ → Bool) (fixed 
   made true xs = canonical_order ccc (flat_map to xs)
   made false xs = []
 
-  mapped_pair : (us : List ℕ) (a b : ℕ) (vs : List ℕ) → to a ≡ a ∷ [] → to b ≡ b ∷ [] → flat_map to (us ++ a ∷ b ∷ vs) ≡ flat_map to us ++ a ∷ b ∷ flat_map to vs
+  mapped_pair : (us : List ℕ) (a b : ℕ) (vs : List ℕ) → to a ≡ a ∷ [] → to b ≡ b ∷ []
+      → flat_map to (us ++ a ∷ b ∷ vs) ≡ flat_map to us ++ a ∷ b ∷ flat_map to vs
   mapped_pair us a b vs first second =
       flat_map-append to us (a ∷ b ∷ vs) ∙ ap₂ (λ x y. flat_map to us ++ (x ++ (y ++ flat_map to vs))) first second
 
@@ -118,12 +120,14 @@ module _ (v : FoldedVersion) where
   unfolding stays
   alone_stays compat c alone = or_right (eqb (class_of v.version c) 0) _ ((bytes_eq-Decides (folded_parts v compat c) (c ∷ [])).1 alone)
 
-  pub alone_told : (compat : Bool) (c : ℕ) (parts one : List ℕ) → parts ≡ flat_map (folded_parts v compat) (c ∷ []) → one ≡ c ∷ [] → bytes_eq parts one ≡ true → stays v compat c ≡ true
+  pub alone_told : (compat : Bool) (c : ℕ) (parts one : List ℕ) → parts ≡ flat_map (folded_parts v compat) (c ∷ []) → one ≡ c ∷ []
+      → bytes_eq parts one ≡ true → stays v compat c ≡ true
   alone_told compat c parts one is alone same =
       alone_stays compat c (sym (append-nil (folded_parts v compat c)) ∙ sym is ∙ (bytes_eq-Decides parts one).0 same ∙ alone)
 
   -- the parts of a folding
-  pub parts_of_folding : (compat : Bool) (c : ℕ) (folding : List ℕ) → folding ≡ folding_at v.foldings c → folded_parts v compat c ≡ flat_map (full_of v.version compat) folding
+  pub parts_of_folding : (compat : Bool) (c : ℕ) (folding : List ℕ) → folding ≡ folding_at v.foldings c
+      → folded_parts v compat c ≡ flat_map (full_of v.version compat) folding
   unfolding folded_parts
   parts_of_folding compat c folding is = ap (flat_map (full_of v.version compat)) (sym is)
 
@@ -143,12 +147,14 @@ module _ (v : FoldedVersion) where
   unfolding decomposed once_folded
   first_step compat xs all = in_order compat (flat_map D xs) all ∙ ap order (flat_map-flat_map (folded_parts v compat) D xs)
 
-  canonical : (xs ys : List ℕ) → AreImages v false xs ys → decomposed v.version false (fold_all v.foldings (decomposed v.version false xs)) ≡ order (flat_map D ys)
+  canonical : (xs ys : List ℕ) → AreImages v false xs ys
+      → decomposed v.version false (fold_all v.foldings (decomposed v.version false xs)) ≡ order (flat_map D ys)
   unfolding last_parts
   canonical xs ys h = first_step false xs h.first ∙ ap order (sym h.parts)
 
   compatible : (xs ys : List ℕ) → AreImages v true xs ys
-      → decomposed v.version true (fold_all v.foldings (decomposed v.version true (fold_all v.foldings (decomposed v.version false xs)))) ≡ order (flat_map K ys)
+      → decomposed v.version true (fold_all v.foldings (decomposed v.version true (fold_all v.foldings (decomposed v.version false xs))))
+      ≡ order (flat_map K ys)
   unfolding last_parts
   compatible xs ys h =
       let once = flat_map (once_folded v true) xs in
@@ -165,7 +171,8 @@ module _ (v : FoldedVersion) where
   images_caseless Nfkc xs ys h = ap (ended v.version true) (compatible xs ys h)
 
   -- what was found out of two lists
-  once_is : (compat : Bool) (xs first once : List ℕ) → first ≡ flat_map D xs → once ≡ flat_map (folded_parts v compat) first → once ≡ flat_map (once_folded v compat) xs
+  once_is : (compat : Bool) (xs first once : List ℕ) → first ≡ flat_map D xs → once ≡ flat_map (folded_parts v compat) first
+      → once ≡ flat_map (once_folded v compat) xs
   unfolding once_folded
   once_is compat xs first once of_first of_once = of_once ∙ ap (flat_map (folded_parts v compat)) of_first ∙ flat_map-flat_map (folded_parts v compat) D xs
 
@@ -218,13 +225,15 @@ flat_next f bs xs done added i x lt here before is =
     ap₂ (λ a b. a ++ b) before (sym is) ∙ flat_map_more f bs (take i xs) x ∙ ap (λ l. bs ++ flat_map f l) (sym more)
 
 -- a test of one more
-pub all_next : (p : ℕ → Bool) (xs : List ℕ) (i x : ℕ) → i < length xs → x ≡ get_or xs i x → list_all p (take i xs) ≡ true → p x ≡ true → list_all p (take (i + 1) xs) ≡ true
+pub all_next : (p : ℕ → Bool) (xs : List ℕ) (i x : ℕ) → i < length xs → x ≡ get_or xs i x → list_all p (take i xs) ≡ true → p x ≡ true
+    → list_all p (take (i + 1) xs) ≡ true
 all_next p xs i x lt here before is =
     let more : take (i + 1) xs ≡ take i xs ++ x ∷ [] = take_more xs i x lt ∙ ap (λ (k : ℕ). take i xs ++ k ∷ []) (sym here) in
     ap (list_all p) more ∙ list_all-append p (take i xs) (x ∷ []) ∙ and_from _ _ before (and_from _ _ is refl)
 
 -- What a table lends of a code point that is no syllable of the arithmetic.
-module _ (v : VersionData) (sound : IsSound v) (compat : Bool) (c : ℕ) (lent : List ℕ) (is : IsLent v compat c lent) (plain : (has_hangul v && is_syllable c) ≡ false) where
+module _ (v : VersionData) (sound : IsSound v) (compat : Bool) (c : ℕ) (lent : List ℕ) (is : IsLent v compat c lent)
+    (plain : (has_hangul v && is_syllable c) ≡ false) where
   pub lent_unmapped : (none : Bool) → none ≡ eqb (length lent) 0 → none ≡ true → is_final v compat c ≡ true
   lent_unmapped none test h =
       elim (cases_Bool (is_final v compat c)) [
@@ -284,7 +293,8 @@ module _ (v : FoldedVersion) (sound : IsSound v.version) where
       images_once v false (c ∷ []) (c ∷ []) ds ds ds refl (sym (append-nil ds)) alone.0 alone.1 (sym (append-nil ds)) refl
 
   -- compatibly, where both decompositions are one
-  pub own_both : (compat : Bool) (c : ℕ) → compat ≡ true → list_all quiet (Compatible c) ≡ true → Canonical c ≡ Compatible c → AreImages v compat (c ∷ []) (c ∷ [])
+  pub own_both : (compat : Bool) (c : ℕ) → compat ≡ true → list_all quiet (Compatible c) ≡ true → Canonical c ≡ Compatible c
+      → AreImages v compat (c ∷ []) (c ∷ [])
   own_both false c e quiets same = cc
   own_both true c e quiets same =
       let ds = Compatible c in
@@ -292,8 +302,8 @@ module _ (v : FoldedVersion) (sound : IsSound v.version) where
       images_twice v true (c ∷ []) (c ∷ []) ds ds ds ds refl (sym (append-nil (Canonical c) ∙ same)) alone.0 alone.1 alone.0 alone.1 (sym (append-nil ds)) refl
 
   -- compatibly, where it has no canonical one
-  pub own_starter : (compat : Bool) (c : ℕ) → compat ≡ true → quiet c ≡ true → list_all quiet (Compatible c) ≡ true → Canonical c ≡ c ∷ [] → class_of v.version c ≡ 0
-      → AreImages v compat (c ∷ []) (c ∷ [])
+  pub own_starter : (compat : Bool) (c : ℕ) → compat ≡ true → quiet c ≡ true → list_all quiet (Compatible c) ≡ true → Canonical c ≡ c ∷ []
+      → class_of v.version c ≡ 0 → AreImages v compat (c ∷ []) (c ∷ [])
   own_starter false c e alone quiets only starter = cc
   own_starter true c e alone quiets only starter =
       let ds = Compatible c in
@@ -314,26 +324,30 @@ quiet_one v c h = (and_parts (is_quiet v.foldings c) true h).0
 -- one more code point behind a text, and one more text
 pub encoded_one : (before after ys : List ℕ) (c : ℕ) → before ≡ encode_utf8_all ys → after ≡ before ++ encode_utf8 c → after ≡ encode_utf8_all (ys ++ c ∷ [])
 encoded_one before after ys c is more =
-    more ∙ ap (λ l. l ++ encode_utf8 c) is ∙ ap (λ l. encode_utf8_all ys ++ l) (sym (append-nil (encode_utf8 c))) ∙ sym (flat_map-append encode_utf8 ys (c ∷ []))
+    more ∙ ap (λ l. l ++ encode_utf8 c) is ∙ ap (λ l. encode_utf8_all ys ++ l) (sym (append-nil (encode_utf8 c)))
+    ∙ sym (flat_map-append encode_utf8 ys (c ∷ []))
 
-pub encoded_text : (before after ys text zs : List ℕ) → before ≡ encode_utf8_all ys → text ≡ encode_utf8_all zs → after ≡ before ++ text → after ≡ encode_utf8_all (ys ++ zs)
+pub encoded_text : (before after ys text zs : List ℕ) → before ≡ encode_utf8_all ys → text ≡ encode_utf8_all zs → after ≡ before ++ text
+    → after ≡ encode_utf8_all (ys ++ zs)
 encoded_text before after ys text zs is of_text more = more ∙ ap₂ (λ a b. a ++ b) is of_text ∙ sym (flat_map-append encode_utf8 ys zs)
 
 -- a normal form of the images is the caseless list
-pub IsCaseless-images : (v : FoldedVersion) → IsSound v.version → (form : Form) (xs ys zs : List ℕ) → AreImages v (is_compat form) xs ys → IsNormalForm v.version form ys zs
-    → IsCaseless v form xs zs
+pub IsCaseless-images : (v : FoldedVersion) → IsSound v.version → (form : Form) (xs ys zs : List ℕ) → AreImages v (is_compat form) xs ys
+    → IsNormalForm v.version form ys zs → IsCaseless v form xs zs
 IsCaseless-images v sound form xs ys zs images normal =
     IsCaseless-value v sound form xs zs (normal_form_is v.version sound form ys zs normal ∙ sym (images_caseless v form xs ys images))
 
 -- code points that are their own images
-pub marked_images : (v : FoldedVersion) (compat : Bool) (own xs : List ℕ) → ((c : ℕ) → get_or own c 0 ≡ 1 → AreImages v compat (c ∷ []) (c ∷ [])) → All (IsMarked own) xs
-    → AreImages v compat xs xs
+pub marked_images : (v : FoldedVersion) (compat : Bool) (own xs : List ℕ) → ((c : ℕ) → IsMarked own c → AreImages v compat (c ∷ []) (c ∷ []))
+    → All (IsMarked own) xs → AreImages v compat xs xs
 marked_images v compat own [] each marked = no_images v compat
 marked_images v compat own (x ∷ xs) each marked =
-    images_more v compat (x ∷ []) (x ∷ []) xs xs (each x (All-head (IsMarked own) x xs marked)) (marked_images v compat own xs each (All-tail (IsMarked own) x xs marked))
+    images_more v compat (x ∷ []) (x ∷ []) xs xs (each x (All-head (IsMarked own) x xs marked))
+    (marked_images v compat own xs each (All-tail (IsMarked own) x xs marked))
 
 -- a text that is its own images, by whatever makes its normal form
-pub ok_caseless : {A E : Type 0} (v : FoldedVersion) → IsSound v.version → (form : Form) (xs : List ℕ) (bytes : A → List ℕ) (r : Result A E) → AreImages v (is_compat form) xs xs
-    → IfOk r (λ t. IsNormalForm v.version form xs (chars (bytes t))) → IfOk r (λ t. IsCaseless v form xs (chars (bytes t)))
+pub ok_caseless : {A E : Type 0} (v : FoldedVersion) → IsSound v.version → (form : Form) (xs : List ℕ) (bytes : A → List ℕ) (r : Result A E)
+    → AreImages v (is_compat form) xs xs → IfOk r (λ t. IsNormalForm v.version form xs (chars (bytes t)))
+    → IfOk r (λ t. IsCaseless v form xs (chars (bytes t)))
 ok_caseless v sound form xs bytes (Ok t) images normal = IsCaseless-images v sound form xs xs (chars (bytes t)) images normal
 ok_caseless v sound form xs bytes (Err e) images normal = tt

@@ -1,5 +1,5 @@
 -- Marks of code points that are their own images, and what the others are looked for by.
-use Rattle.std.proofs.Common.{◌≡◌, ◌≢◌, ℕ, ◌+◌, ◌<◌, ◌≤◌, ◌&&◌, Bool, true, false, List, [], ◌∷◌, length, flat_map, get_or, Some, None, refl, sym, ap, subst, ◌∙◌, inl, inr, arith}
+use Rattle.std.proofs.Common.{◌≡◌, ℕ, ◌+◌, ◌<◌, ◌≤◌, ◌&&◌, Bool, true, false, List, [], ◌∷◌, length, flat_map, get_or, Some, None, refl, sym, ap, subst, ◌∙◌, inl, inr, arith}
 use Rattle.std.specs.List.{list_all, slice_get}
 use Rattle.std.specs.Option.{option_map}
 use Rattle.std.proofs.lemmas.Bool.{and_from, and_parts, both_ways, cases_Bool}
@@ -20,9 +20,9 @@ use Rattle.np_versions.specs.inside.FullDecompositions.{full_of}
 use Rattle.np_versions.proofs.HangulLemmas.{shape_of}
 use Rattle.np_versions.proofs.MappingLemmas.{full_of-final}
 use Rattle.np_caseless.specs.Folded.{FoldedVersion, is_quiet}
-use Rattle.np_caseless.specs.inside.FirstFaults.{AreMapped, Below, IsCodeAt, IsFoldingAt, IsOfArithmetic, IsRowAt, IsSyllableAt}
+use Rattle.np_caseless.specs.inside.FirstFaults.{AreMapped, Below, IsCodeAt, IsFoldingAt, IsOfArithmetic, IsRowAt}
 use Rattle.np_caseless.specs.inside.Images.{AreImages}
-use Rattle.np_caseless.specs.inside.ImageTables.{IsCleared, IsLessMarked, IsTold}
+use Rattle.np_caseless.specs.inside.ImageTables.{IsCleared, IsLessMarked, IsMarked, IsTold, IsUnmarked}
 use Rattle.np_caseless.proofs.FineLemmas.{mapped_where, parts_all}
 use Rattle.np_caseless.proofs.FirstLemmas.{below_next}
 use Rattle.np_caseless.proofs.ImageLemmas.{images_caseless, own_of}
@@ -30,25 +30,22 @@ use Rattle.np_caseless.proofs.KeyLemmas.{caseless_is}
 use Rattle.np_caseless.proofs.ListedLemmas.{listed}
 use Rattle.np_caseless.proofs.QuietLemmas.{final_weaker}
 
-abbrev Unmarked : List ℕ → ℕ → Type 0
-Unmarked own c = get_or own c 0 ≢ 1
-
 -- ---- one more place
 
 -- of the foldings
 pub unmarked_folding : (fs : List Folding) (at code : ℕ) (before after : List ℕ) → IsFoldingAt fs at code → IsCleared before after code
-    → ((c : ℕ) → Below (IsFoldingAt fs) at c → Unmarked before c) → (c : ℕ) → Below (IsFoldingAt fs) (at + 1) c → Unmarked after c
+    → ((c : ℕ) → Below (IsFoldingAt fs) at c → IsUnmarked before c) → (c : ℕ) → Below (IsFoldingAt fs) (at + 1) c → IsUnmarked after c
 unmarked_folding fs at code before after here cleared done c h =
     elim (below_next (IsFoldingAt fs) at c h) [
       | inl less ↦ λ marked. done c less (cleared.others c marked)
-      | inr there ↦ subst (Unmarked after) (same_code code c (sym here ∙ there)) cleared.here
+      | inr there ↦ subst (IsUnmarked after) (same_code code c (sym here ∙ there)) cleared.here
     ]
   where
     same_code : (a b : ℕ) → Some a ≡ Some b → a ≡ b
     same_code a b e = cc
 
 pub unmarked_none : (fs : List Folding) (at : ℕ) (own : List ℕ) → option_map (λ (f : Folding). f.code) (slice_get fs at) ≡ None
-    → ((c : ℕ) → Below (IsFoldingAt fs) at c → Unmarked own c) → (c : ℕ) → Below (IsFoldingAt fs) (at + 1) c → Unmarked own c
+    → ((c : ℕ) → Below (IsFoldingAt fs) at c → IsUnmarked own c) → (c : ℕ) → Below (IsFoldingAt fs) (at + 1) c → IsUnmarked own c
 unmarked_none fs at own none done c h =
     elim (below_next (IsFoldingAt fs) at c h) [
       | inl less ↦ done c less
@@ -57,15 +54,6 @@ unmarked_none fs at own none done c h =
   where
     no_some : (c : ℕ) → None ≡ Some c → ⊥
     no_some c e = cc
-
--- of the syllables
-pub unmarked_syllable : (at code : ℕ) (before after : List ℕ) → code ≡ 0xAC00 + at → IsCleared before after code
-    → ((c : ℕ) → Below IsSyllableAt at c → Unmarked before c) → (c : ℕ) → Below IsSyllableAt (at + 1) c → Unmarked after c
-unmarked_syllable at code before after here cleared done c h =
-    elim (below_next IsSyllableAt at c h) [
-      | inl less ↦ λ marked. done c less (cleared.others c marked)
-      | inr there ↦ subst (Unmarked after) (here ∙ sym there) cleared.here
-    ]
 
 -- nothing is marked anew by two steps
 pub less_more : (a b c : List ℕ) → IsLessMarked a b → IsLessMarked b c → IsLessMarked a c
@@ -121,8 +109,8 @@ module _ (v : FoldedVersion) (sound : IsSound v.version) where
       omega (arith, ap length same, all, counted, few, long.long)
 
   -- a syllable of the arithmetic, where no Hangul folds
-  pub syllable_own : has_hangul v.version ≡ true → ((c : ℕ) → is_hangul c ≡ true → is_quiet v.foldings c ≡ true) → (compat : Bool) (s : ℕ) → is_syllable s ≡ true
-      → AreImages v compat (s ∷ []) (s ∷ [])
+  pub syllable_own : has_hangul v.version ≡ true → ((c : ℕ) → is_hangul c ≡ true → is_quiet v.foldings c ≡ true) → (compat : Bool) (s : ℕ)
+      → is_syllable s ≡ true → AreImages v compat (s ∷ []) (s ∷ [])
   syllable_own on quiet compat s is =
       let same = full_of-syllable v.version false sound on s is ∙ sym (full_of-syllable v.version true sound on s is) in
       own_of v sound compat s
@@ -130,10 +118,10 @@ module _ (v : FoldedVersion) (sound : IsSound v.version) where
       same
 
   -- all code points
-  pub all_own : (compat : Bool) (first second third : List ℕ) → ((c : ℕ) → Below (IsFoldingAt v.foldings) (length v.foldings) c → Unmarked first c)
-      → IsLessMarked first second → ((compat : Bool) (c : ℕ) → IsOfArithmetic v c → get_or second c 0 ≡ 1 → AreImages v compat (c ∷ []) (c ∷ []))
+  pub all_own : (compat : Bool) (first second third : List ℕ) → ((c : ℕ) → Below (IsFoldingAt v.foldings) (length v.foldings) c → IsUnmarked first c)
+      → IsLessMarked first second → ((compat : Bool) (c : ℕ) → IsOfArithmetic v c → IsMarked second c → AreImages v compat (c ∷ []) (c ∷ []))
       → IsLessMarked second third → ((c : ℕ) → Below (IsRowAt v.version.entries) (length v.version.entries) c → IsTold v compat third c)
-      → (c : ℕ) → get_or third c 0 ≡ 1 → AreImages v compat (c ∷ []) (c ∷ [])
+      → (c : ℕ) → IsMarked third c → AreImages v compat (c ∷ []) (c ∷ [])
   all_own compat first second third foldings less syllables less_still rows c marked =
       let marked_then = less_still c marked in
       let marked_first = less c marked_then in

@@ -1,9 +1,9 @@
 //! The images of all code points of a version with its foldings.
-ghost use Rattle.std.specs.Prelude.{◌≡◌, ◌≢◌, ℕ, Bool, ◌∷◌, [], get_or, length, option_map, slice_get, IfOk, IfSome, IsTrue, OnOk};
+ghost use Rattle.std.specs.Prelude.{◌≡◌, ℕ, Bool, ◌∷◌, [], length, option_map, slice_get, IfOk, IfSome, IsTrue, OnOk};
 ghost use Rattle.np_caseless.specs.Folded.{folded_by};
 ghost use Rattle.np_caseless.specs.inside.FirstFaults.{AreMapped, Below, IsCodeAt, IsFoldingAt, IsOfArithmetic};
 ghost use Rattle.np_caseless.specs.inside.Images.{AreImages};
-ghost use Rattle.np_caseless.specs.inside.ImageTables.{AreAllImages, AreKnown, IsCleared, IsKnown, IsLessMarked, IsTold};
+ghost use Rattle.np_caseless.specs.inside.ImageTables.{AreAllImages, AreKnown, IsCleared, IsKnown, IsLessMarked, IsMarked, IsTold, IsUnmarked};
 
 use crate::own_images::{image_of, is_own};
 use crate::quiet_hangul::is_hangul_quiet;
@@ -12,9 +12,6 @@ use np_code_points::hangul::{S_BASE, S_COUNT, is_syllable};
 use np_foldings::Foldings;
 use np_versions::NormTable;
 use std::alloc::Global;
-
-/// How many code points there are.
-const CODE_POINTS: usize = 0x11_0000;
 
 /// The image of a code point that isn't its own.
 #[derive(Drop)]
@@ -26,7 +23,7 @@ pub(crate) struct Image {
 /// The images of code points, by one kind of normalization.
 #[derive(Drop)]
 pub(crate) struct Images {
-    /// By code point, 1 where it is known to be its own image.
+    /// By code point, 1 where it is known to be its own image, as each is that stands beyond the end.
     pub(crate) own: Vec<u8>,
     /// Those of the code points that fold, in their order.
     pub(crate) of_foldings: Vec<Image>,
@@ -34,13 +31,23 @@ pub(crate) struct Images {
     pub(crate) of_rows: Vec<Image>,
 }
 
-/// Marks a code point as one that isn't known to be its own image.
-fn clear(own: &mut Vec<u8>, code: char)
-    ensures { IsCleared own.old.items own.new.items code }
+/// The code points that have a mapping, and the kind of normalization by which their images are looked for.
+#[derive(Clone, Copy)]
+struct MappedCodes<'a> {
+    compat: bool,
+    codes: &'a [char],
+}
+
+/// Marks a code point as one that isn't known to be its own image. Where it stands beyond the end, the marks grow up to it.
+fn clear(own: &mut Vec<u8>, code: char) -> Result<(), Memory>
+    ensures { OnOk result (IsCleared own.old.items own.new.items code) }
 {
-    if let Some(mark) = own.get_mut(u32::from(code) as usize) {
-        *mark = 0;
+    let at = u32::from(code) as usize;
+    if at >= own.len() {
+        own.resize(at + 1, 1)?;
     }
+    own[at] = 0;
+    Ok(())
 }
 
 /// The image of a code point, where one is known.
@@ -78,12 +85,12 @@ fn of_foldings<T: NormTable>(
     own: &mut Vec<u8>,
 ) -> Result<Vec<Image>, Memory>
     ensures known { IfOk result (λ list. AreKnown (folded_by (T.model table.now) foldings.now) compat list.items) }
-    ensures cleared { OnOk result ((c : ℕ) → Below (IsFoldingAt foldings.now) (length foldings.now) c → get_or own.new.items c 0 ≢ 1) }
+    ensures cleared { OnOk result ((c : ℕ) → Below (IsFoldingAt foldings.now) (length foldings.now) c → IsUnmarked own.new.items c) }
 {
     let mut list = Vec::new(alloc);
     for at in 0..foldings.len() {
         if let Some(code) = code_at(foldings, at) {
-            clear(own, code);
+            clear(own, code)?;
             if let Some(image) = known_image(alloc, table, foldings, compat, code)? {
                 list.push(image)?;
             }
@@ -93,29 +100,34 @@ fn of_foldings<T: NormTable>(
 }
 
 /// Clears the Hangul syllables, where their arithmetic is on and it isn't known that none folds.
-fn clear_syllables<T: NormTable>(table: &T, foldings: &Foldings, own: &mut Vec<u8>)
-    ensures less { IsLessMarked own.old.items own.new.items }
-    ensures told { (compat : Bool) (c : ℕ) → IsOfArithmetic (folded_by (T.model table.now) foldings.now) c → get_or own.new.items c 0 ≡ 1
-        → AreImages (folded_by (T.model table.now) foldings.now) compat (c ∷ []) (c ∷ []) }
+fn clear_syllables<T: NormTable>(
+    table: &T,
+    foldings: &Foldings,
+    own: &mut Vec<u8>,
+) -> Result<(), Memory>
+    ensures less { OnOk result (IsLessMarked own.old.items own.new.items) }
+    ensures told { OnOk result ((compat : Bool) (c : ℕ) → IsOfArithmetic (folded_by (T.model table.now) foldings.now) c
+        → IsMarked own.new.items c → AreImages (folded_by (T.model table.now) foldings.now) compat (c ∷ []) (c ∷ [])) }
 {
     table.meets_conditions();
     if !table.hangul() || is_hangul_quiet(foldings) {
-        return;
+        return Ok(());
     }
     for at in 0..S_COUNT {
         if let Some(code) = char::from_u32(S_BASE + at) {
-            clear(own, code);
+            clear(own, code)?;
         }
     }
+    Ok(())
 }
 
 /// Whether a code point isn't marked as its own image.
 fn is_unmarked(own: &[u8], code: char) -> bool
-    ensures { IsTrue result → get_or own.now code 0 ≢ 1 }
+    ensures { IsTrue result → IsUnmarked own.now code }
 {
     match own.get(u32::from(code) as usize) {
         Some(mark) => *mark != 1,
-        None => true,
+        None => false,
     }
 }
 
@@ -127,41 +139,42 @@ fn look_at<T: NormTable>(
     compat: bool,
     code: char,
     own: &mut Vec<u8>,
-) -> bool
-    ensures less { IsLessMarked own.old.items own.new.items }
-    ensures told { IsTold (folded_by (T.model table.now) foldings.now) compat own.new.items code }
+) -> Result<bool, Memory>
+    ensures less { OnOk result (IsLessMarked own.old.items own.new.items) }
+    ensures told { OnOk result (IsTold (folded_by (T.model table.now) foldings.now) compat own.new.items code) }
 {
     table.meets_conditions();
     if is_unmarked(own.as_slice(), code) {
-        return false;
+        return Ok(false);
     }
     if table.hangul() && is_syllable(u32::from(code)) {
-        return false;
+        return Ok(false);
     }
     if is_own(table, foldings, compat, code) {
-        return false;
+        return Ok(false);
     }
-    clear(own, code);
-    true
+    clear(own, code)?;
+    Ok(true)
 }
 
-/// The images of code points that have a mapping, by one kind of normalization.
+/// The images of code points that have a mapping.
 fn of_rows<T: NormTable>(
     alloc: Global,
     table: &T,
     foldings: &Foldings,
-    rows: (bool, &[char]),
+    mapped: MappedCodes<'_>,
     own: &mut Vec<u8>,
 ) -> Result<Vec<Image>, Memory>
-    ensures known { IfOk result (λ list. AreKnown (folded_by (T.model table.now) foldings.now) rows.entry.0 list.items) }
-    ensures less { IsLessMarked own.old.items own.new.items }
-    ensures told { OnOk result ((c : ℕ) → Below (IsCodeAt rows.entry.1.now) (length rows.entry.1.now) c
-        → IsTold (folded_by (T.model table.now) foldings.now) rows.entry.0 own.new.items c) }
+    ensures known { IfOk result (λ list. AreKnown (folded_by (T.model table.now) foldings.now) mapped.entry.compat list.items) }
+    ensures less { OnOk result (IsLessMarked own.old.items own.new.items) }
+    ensures told { OnOk result ((c : ℕ) → Below (IsCodeAt mapped.entry.codes.now) (length mapped.entry.codes.now) c
+        → IsTold (folded_by (T.model table.now) foldings.now) mapped.entry.compat own.new.items c) }
 {
-    let (compat, codes) = rows;
+    let MappedCodes { compat, codes } = mapped;
     let mut list = Vec::new(alloc);
     for code in codes {
-        if look_at(table, foldings, compat, *code, own) {
+        let was_cleared = look_at(table, foldings, compat, *code, own)?;
+        if was_cleared {
             if let Some(image) = known_image(alloc, table, foldings, compat, *code)? {
                 list.push(image)?;
             }
@@ -189,10 +202,13 @@ impl Images {
         table.meets_conditions();
         foldings.are_in_order();
         let mut own = Vec::new(alloc);
-        own.resize(CODE_POINTS, 1)?;
         let of_foldings = of_foldings(alloc, table, foldings, compat, &mut own)?;
-        clear_syllables(table, foldings, &mut own);
-        let of_rows = of_rows(alloc, table, foldings, (compat, mapped), &mut own)?;
+        clear_syllables(table, foldings, &mut own)?;
+        let codes = MappedCodes {
+            compat,
+            codes: mapped,
+        };
+        let of_rows = of_rows(alloc, table, foldings, codes, &mut own)?;
         Ok(Images {
             own,
             of_foldings,

@@ -17,7 +17,7 @@ pub(crate) fn is_marked_code(own: &[u8], code: usize) -> bool
 {
     match own.get(code) {
         Some(mark) => *mark == 1,
-        None => false,
+        None => true,
     }
 }
 

@@ -8,17 +8,20 @@ use Rattle.np_caseless.specs.inside.Images.{AreImages}
 use Rattle.np_caseless.specs.declared.image_tables.Image.{Image}
 use Rattle.np_caseless.specs.declared.image_tables.Images.{Images}
 
--- a code point is marked as its own image
+-- a code point is marked as its own image, as each is that stands beyond the end
 abbrev pub IsMarked : List ℕ → ℕ → Type 0
-IsMarked own c = get_or own c 0 ≡ 1
+IsMarked own c = get_or own c 1 ≡ 1
+
+abbrev pub IsUnmarked : List ℕ → ℕ → Type 0
+IsUnmarked own c = get_or own c 1 ≢ 1
 
 -- nothing is marked that wasn't
 abbrev pub IsLessMarked : List ℕ → List ℕ → Type 0
-IsLessMarked before after = (c : ℕ) → get_or after c 0 ≡ 1 → get_or before c 0 ≡ 1
+IsLessMarked before after = (c : ℕ) → IsMarked after c → IsMarked before c
 
 -- a code point is no longer marked, and no other was marked
 pub record IsCleared (before after : List ℕ) (code : ℕ) : Type 0 where
-  pub here : get_or after code 0 ≢ 1
+  pub here : IsUnmarked after code
   pub others : IsLessMarked before after
 
 -- the image of its code point
@@ -32,11 +35,11 @@ AreKnown v compat list = All (IsKnown v compat) list
 -- a code point that is marked has no mapping, or is a syllable of the arithmetic, or is its own image
 abbrev pub IsTold : FoldedVersion → Bool → List ℕ → ℕ → Type 0
 IsTold v compat own c =
-    get_or own c 0 ≡ 1 → (is_final v.version true c ≡ true) ⊎ (IsOfArithmetic v c ⊎ AreImages v compat (c ∷ []) (c ∷ []))
+    IsMarked own c → (is_final v.version true c ≡ true) ⊎ (IsOfArithmetic v c ⊎ AreImages v compat (c ∷ []) (c ∷ []))
 
 -- the images of all code points: those that are marked are their own, and the others' stand in lists
 pub record AreAllImages (v : FoldedVersion) (compat : Bool) (images : Images) : Type 0 where
-  pub own : (c : ℕ) → get_or images.own.items c 0 ≡ 1 → AreImages v compat (c ∷ []) (c ∷ [])
+  pub own : (c : ℕ) → IsMarked images.own.items c → AreImages v compat (c ∷ []) (c ∷ [])
   pub of_foldings : AreKnown v compat images.of_foldings.items
   pub of_rows : AreKnown v compat images.of_rows.items
 
