@@ -44,7 +44,8 @@ NAMED = {"systemd-nspawn": "systemd-container"}
 DEBIAN = ("npss", "libnpss0", "libnpss-dev", "python3-npss", "postgresql-15-npss", "sqlite3-npss", "npss-registry", "npss-doc")
 PROGRAMS = ("npss", "npss_lines", "npss_caseless")
 # What asks for the toolchain, and how a script does that.
-ASKING = {"build-c", "npss", "prove", "test", "bench/gate", "tests/repository/edits.py", "tests/on_demand/wrong_bodies.py"}
+ASKING = {"build-c", "npss", "prove", "test", "bench/gate", "tests/repository/edits.py", "tests/repository/layout.py",
+          "tests/on_demand/wrong_bodies.py"}
 ASKS = re.compile(r"which\([\"']rt[\"']|\[[\"']rt[\"']|command -v rt\b|for command in rt\b|^\s*(?:\w+=\S* )*rt [a-z]", re.MULTILINE)
 KEY_BY_PYTHON = f"""
 import importlib.metadata

@@ -2,16 +2,18 @@
 """How many instructions a few runs take: tests/program/costs.py PROGRAM LINES, where LINES is npss_lines.
 
 Answers that are right and several times as dear fail no other test: a table that tells nothing of ASCII, or an audit that
-looks at each code point. Each run's instructions are counted by valgrind, and may be a tenth more than the figure that is
-kept below. Where a change makes a run cheaper, put the figure right. tests/library/doors.py counts keys through the library for C
-in the same way. Ends in a line 'N passed, M failed'.
+looks at each code point, or a caseless key that is always made the long way. Each run's instructions are counted by valgrind,
+and may be a tenth more than the figure that is kept below. Where a change makes a run cheaper, put the figure right.
+tests/library/doors.py counts keys through the library for C in the same way. Ends in a line 'N passed, M failed'.
 """
 
 import re
 import shutil
+import string
 import subprocess
 import sys
 import tempfile
+import unicodedata
 from pathlib import Path
 
 # Nothing is written into the tree.
@@ -20,7 +22,7 @@ sys.path.insert(0, str(Path(__file__).resolve().parent.parent))
 
 from program.cases import text
 from harness import Tally
-from versions import record
+from versions import record, with_records
 
 # Millions of instructions, and how many more are too many.
 MORE = 1.1
@@ -28,9 +30,22 @@ MORE = 1.1
 LENGTH = 4 << 20
 ASCII = "the quick brown fox jumps over a lazy dog "
 LATIN = "Zo\u00eb na\u00efvet\u00e9 \u00e0 c\u00f4t\u00e9 "
+CAPITALS = "\u00c0\u00c9\u00cb\u00cf\u00d4" + "".join(map(chr, range(0x410, 0x430)))
+# Lines by what they are of, for caseless keys, and the millions of instructions that are kept. Of the last nothing folds.
+CASELESS = {
+    "ASCII": (f"{ASCII.title()}\n", 47.0),
+    "Latin": ("Zo\u00eb Na\u00efvet\u00e9\n\u00c0 C\u00f4t\u00e9\n", 131.1),
+    "Cyrillic": ("\u041d\u043e\u0432\u044b\u0439 \u0413\u043e\u0440\u043e\u0434\n\u0414\u043e\u043c \u041a\u043d\u0438\u0433\u0438\n", 118.2),
+    "ideographs": ("\u6771\u4eac\u90fd \u65e5\u672c\u6a4b\n\u6587\u5b57 \u4e2d\u592e\n", 192.6),
+}
 
 # How many instructions a key takes through the library for C, by the text's name in doors/costs.c.
 KEYS = {"short": 138, "long": 1_550, "changed": 1_707, "looked-up": 883}
+
+
+def code_of(letter):
+    """The letter's code point, as files have it."""
+    return f"{ord(letter):04X}"
 
 
 def version():
@@ -43,10 +58,22 @@ def version():
     return "".join(lines)
 
 
+def folded_version():
+    """The same with capitals and Cyrillic, and a folding file by which each capital folds to its small letter."""
+    letters = [record(code_of(letter), mapping=unicodedata.decomposition(letter)) for letter in CAPITALS + CAPITALS.lower()]
+    folds = [f"{code_of(letter)}; C; {code_of(letter.lower())}; # X\n" for letter in string.ascii_uppercase + CAPITALS]
+    return with_records(version(), record("0306", "Mn", 230), *letters), "".join(folds)
+
+
+def of_length(piece):
+    """The text so often that it has as many bytes as are wanted."""
+    return piece.encode() * (LENGTH // len(piece.encode()))
+
+
 def runs(program, lines):
     """What is run, over which input, and its millions of instructions."""
-    files = ["data", "exclusions"]
-    ascii_text, latin = (piece.encode() * (LENGTH // len(piece.encode())) for piece in (ASCII, LATIN))
+    files, three = ["data", "exclusions"], ["folded-data", "exclusions", "foldings"]
+    ascii_text, latin = of_length(ASCII), of_length(LATIN)
     yield "audit of a version with itself", [program, "audit", *files, *files], b"", 27.8
     yield "key of a short name", [program, "key", "--form", "nfc", *files], text("0061"), 16.5
     yield "key of ASCII, NFC", [program, "key", "--form", "nfc", *files], ascii_text, 26.4
@@ -54,6 +81,8 @@ def runs(program, lines):
     yield "key of Latin, NFD", [program, "key", "--form", "nfd", *files], latin, 200.0
     yield "lines of short names, NFC", [lines, "--form", "nfc", *files], b"bob\n" * (LENGTH // 4), 110.1
     yield "lines of Latin, NFD", [lines, "--form", "nfd", *files], latin.replace(b" ", b"\n"), 327.1
+    for name, (piece, kept) in CASELESS.items():
+        yield f"lines of {name}, NFKC, caseless", [lines, "--form", "nfkc", "--caseless", *three], of_length(piece), kept
 
 
 def instructions(command, given, folder):
@@ -68,6 +97,12 @@ def write_version(folder):
     """Writes the version's two files."""
     (folder / "data").write_text(version(), encoding="ascii")
     (folder / "exclusions").write_text("", encoding="ascii")
+
+
+def write_folded_version(folder):
+    """Writes the data and the foldings of the version that folds."""
+    for name, text in zip(("folded-data", "foldings"), folded_version()):
+        (folder / name).write_text(text, encoding="ascii")
 
 
 def check_keys(tally, program, folder):
@@ -87,6 +122,7 @@ def main():
     else:
         with tempfile.TemporaryDirectory() as folder:
             write_version(Path(folder))
+            write_folded_version(Path(folder))
             for name, command, given, kept in runs(*(Path(word).resolve() for word in sys.argv[1:3])):
                 count, status = instructions(command, given, folder)
                 print(f"{name}: {count} million instructions, {kept} are kept, status {status}")
