@@ -1,7 +1,7 @@
 -- The lowercases that are read are those of the grammar, and no other.
 use Rattle.std.proofs.Common.{◌≡◌, ℕ, suc, ◌-◌, ◌+◌, ◌<◌, ◌≤◌, ◌⊎◌, Bool, true, false, ◌||◌, cond, List, [], ◌∷◌, ◌++◌, get_or, Option, Some, None, refl, sym, ap, subst, ◌∙◌, inl, inr, ⊎_elim, arith}
 use Rattle.std.specs.List.{All, Contains}
-use Rattle.std.proofs.lemmas.Bool.{both_ways, or_cases, or_left, or_right}
+use Rattle.std.proofs.lemmas.Bool.{both_ways, cases_Bool, or_cases, or_left, or_right}
 use Rattle.std.proofs.lemmas.List.{append-nil}
 use Rattle.std.proofs.lemmas.List.Elements.{All-nil, All-cons, All-head, All-tail}
 use Rattle.np_code_points.specs.Codes.{code_value}
@@ -198,6 +198,17 @@ module _ (text : List ℕ) where
 
   pub said_closing : closes_range (field 1 text) ≡ true → [] ≡ said_lower text
   said_closing e = sym (by_range true (or_right (opens_range (field 1 text)) (closes_range (field 1 text)) e))
+
+  no_pair : (o : Option ℕ) → pair_of o None ≡ []
+  no_pair None = refl
+  no_pair (Some code) = refl
+
+  pub said_no_lower : word_code (words_of Spaces (field 13 text)) ≡ None → [] ≡ said_lower text
+  said_no_lower none =
+      elim (cases_Bool ranged) [
+        | inl ranges ↦ sym (by_range true ranges)
+        | inr alone ↦ sym (by_range false alone ∙ ap (pair_of (code_value (field 0 text))) none ∙ no_pair (code_value (field 0 text)))
+      ]
 
   pub said_pair : (o l : Option ℕ) → opens_range (field 1 text) ≡ false → closes_range (field 1 text) ≡ false → code_value (field 0 text) ≡ o → word_code (words_of Spaces (field 13 text)) ≡ l → pair_of o l ≡ said_lower text
   said_pair o l eo ec code lower = sym (

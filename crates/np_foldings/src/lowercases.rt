@@ -90,6 +90,7 @@ fn lower_of(text: &[u8]) -> Option<Lowercase>
     if says_none(text) {
         return None;
     }
+    let lower = written_code(field_at(text, LOWERCASE))?;
     let name = field_at(text, NAME);
     if opens_range(name) {
         return None;
@@ -98,7 +99,6 @@ fn lower_of(text: &[u8]) -> Option<Lowercase>
         return None;
     }
     let code = code_of(field_at(text, CODE))?;
-    let lower = written_code(field_at(text, LOWERCASE))?;
     Some(Lowercase { code, lower })
 }
 
