@@ -215,7 +215,8 @@ pub(crate) fn write_front(
     ensures length { length room.new ≡ length room.old }
     ensures within { result.count ≤ length text.now }
     ensures free { HasNo stop (take result.count text.now) }
-    ensures made { (v : FoldedVersion) (form : Form) → IsSoundFolding v → AreSimple v form known.entry.simple.now → AreOwn v (is_compat form) known.entry.own.now
+    ensures made { (v : FoldedVersion) (form : Form) → IsSoundFolding v → AreSimple v form known.entry.simple.now
+        → AreOwn v (is_compat form) known.entry.own.now
         → IsMadeOfFront v form result.apart text.now (drop result.count text.now) (take result.count room.new) }
 {
     let bytes = text.as_bytes();
