@@ -33,10 +33,10 @@ LATIN = "Zo\u00eb na\u00efvet\u00e9 \u00e0 c\u00f4t\u00e9 "
 CAPITALS = "\u00c0\u00c9\u00cb\u00cf\u00d4" + "".join(map(chr, range(0x410, 0x430)))
 # Lines by what they are of, for caseless keys, and the millions of instructions that are kept. Of the last nothing folds.
 CASELESS = {
-    "ASCII": (f"{ASCII.title()}\n", 47.0),
-    "Latin": ("Zo\u00eb Na\u00efvet\u00e9\n\u00c0 C\u00f4t\u00e9\n", 131.1),
-    "Cyrillic": ("\u041d\u043e\u0432\u044b\u0439 \u0413\u043e\u0440\u043e\u0434\n\u0414\u043e\u043c \u041a\u043d\u0438\u0433\u0438\n", 118.2),
-    "ideographs": ("\u6771\u4eac\u90fd \u65e5\u672c\u6a4b\n\u6587\u5b57 \u4e2d\u592e\n", 192.6),
+    "ASCII": (f"{ASCII.title()}\n", 43.4),
+    "Latin": ("Zo\u00eb Na\u00efvet\u00e9\n\u00c0 C\u00f4t\u00e9\n", 113.7),
+    "Cyrillic": ("\u041d\u043e\u0432\u044b\u0439 \u0413\u043e\u0440\u043e\u0434\n\u0414\u043e\u043c \u041a\u043d\u0438\u0433\u0438\n", 109.5),
+    "ideographs": ("\u6771\u4eac\u90fd \u65e5\u672c\u6a4b\n\u6587\u5b57 \u4e2d\u592e\n", 168.9),
 }
 
 # How many instructions a key takes through the library for C, by the text's name in doors/costs.c.
@@ -77,10 +77,10 @@ def runs(program, lines):
     yield "audit of a version with itself", [program, "audit", *files, *files], b"", 27.8
     yield "key of a short name", [program, "key", "--form", "nfc", *files], text("0061"), 16.5
     yield "key of ASCII, NFC", [program, "key", "--form", "nfc", *files], ascii_text, 26.4
-    yield "key of Latin, NFC", [program, "key", "--form", "nfc", *files], latin, 74.1
+    yield "key of Latin, NFC", [program, "key", "--form", "nfc", *files], latin, 65.9
     yield "key of Latin, NFD", [program, "key", "--form", "nfd", *files], latin, 200.0
     yield "lines of short names, NFC", [lines, "--form", "nfc", *files], b"bob\n" * (LENGTH // 4), 110.1
-    yield "lines of Latin, NFD", [lines, "--form", "nfd", *files], latin.replace(b" ", b"\n"), 327.1
+    yield "lines of Latin, NFD", [lines, "--form", "nfd", *files], latin.replace(b" ", b"\n"), 322.3
     for name, (piece, kept) in CASELESS.items():
         yield f"lines of {name}, NFKC, caseless", [lines, "--form", "nfkc", "--caseless", *three], of_length(piece), kept
 
