@@ -9,6 +9,7 @@ pub mod ExampleLemmas
 pub mod FineLemmas
 pub mod FirstLemmas
 pub mod FoldLemmas
+pub mod FrontLemmas
 pub mod ImageLemmas
 pub mod ImageTableLemmas
 pub mod KeyLemmas

@@ -1,12 +1,12 @@
 -- What a text is made into by images that stand for its code points whatever is around them.
-use Rattle.std.proofs.Common.{◌≡◌, ℕ, ◌+◌, ◌*◌, ◌/◌, ◌%◌, ◌<◌, ◌≤◌, ◌&&◌, ◌≢◌, Bool, true, false, List, [], ◌∷◌, ◌++◌, append_assoc, drop, get_or, length, length-append, replicate, slice_set, take, arith, chars, encode_utf8, encode_utf8_all, IsUtf8, refl, sym, ap, ap₂, subst, ◌∙◌, inl, inr}
+use Rattle.std.proofs.Common.{◌≡◌, ℕ, ◌+◌, ◌-◌, ◌*◌, ◌/◌, ◌%◌, ◌<◌, ◌≤◌, ◌&&◌, ◌≢◌, Bool, true, false, List, [], ◌∷◌, ◌++◌, append_assoc, drop, get_or, length, length-append, replicate, slice_set, take, arith, chars, encode_utf8, encode_utf8_all, IsUtf8, refl, sym, ap, ap₂, subst, ◌∙◌, inl, inr}
 use Rattle.std.proofs.Math.Seq.{drop-append_seam, take-append_seam}
 use Rattle.std.proofs.lemmas.Bool.{and_from, and_parts}
 use Rattle.std.proofs.lemmas.Grind.{flat_map-append}
 use Rattle.std.proofs.lemmas.List.{take_at, append-nil, drop-drop, drop_more, get_or-drop, get_or-replicate, get_or-set_other, get_or-set_same, length-drop, length-replicate, length-set, length-take, take_more_set, take-append-drop}
 use Rattle.std.proofs.lemmas.List.Elements.{All-append, All-cons, All-drop, All-nil, All-take}
 use Rattle.std.proofs.lemmas.List.Folds.{list_all-append}
-use Rattle.std.proofs.lemmas.Str.{chars-nil, chars_from_encodes, encodes-chars, IsUtf8-append, IsUtf8-nil}
+use Rattle.std.proofs.lemmas.Str.{chars_from_encodes, encodes-chars, IsUtf8-append, IsUtf8-nil}
 use Rattle.np_code_points.specs.Forms.{is_compat}
 use Rattle.np_code_points.specs.Lines.{HasNo}
 use Rattle.np_code_points.specs.declared.forms.Form.{Form}
@@ -26,7 +26,7 @@ use Rattle.np_caseless.specs.Conditions.{IsSoundFolding}
 use Rattle.np_caseless.specs.Folded.{FoldedVersion}
 use Rattle.np_caseless.specs.inside.Images.{AreImages}
 use Rattle.np_caseless.specs.SimpleKeys.{AddsNoControl, IsSimpleKey}
-use Rattle.np_caseless.specs.inside.SimpleImages.{AreSimple, IsApart, IsCodeAt, StandsFor, IsSimple, bytes_of, listed}
+use Rattle.np_caseless.specs.inside.SimpleImages.{AreSimple, HaveNoControls, IsApart, IsCodeAt, StandsFor, IsSimple, bytes_of, listed}
 use Rattle.np_caseless.specs.inside.SimpleTexts.{AreOwn, IsCodeWritten, IsMadeOfFront}
 use Rattle.np_caseless.specs.declared.simple_images.SimpleImage.{SimpleImage}
 use Rattle.np_caseless.specs.declared.simple_texts.KnownImages.{KnownImages}
@@ -91,22 +91,26 @@ module _ (v : FoldedVersion) (sound : IsSoundFolding v) (form : Form) where
       }
 
   -- what stands for the code point at a place was written there
-  pub written_next : (known : KnownImages) (before more : Bool) (text : List ℕ) (at count : ℕ) (room after : List ℕ) → AreSimple v form known.simple.now
-      → AreOwn v (is_compat form) known.own.now → IsCodeWritten known text at count more room after → IsMadeOfFront v form before text (drop at text) (take at room)
+  pub written_next : (known : KnownImages) (before more : Bool) (text : List ℕ) (at count code : ℕ) (room after : List ℕ) → AreSimple v form known.simple.now
+      → AreOwn v (is_compat form) known.own.now → IsCodeWritten known text at count code more room after
+      → IsMadeOfFront v form before text (drop at text) (take at room)
       → IsMadeOfFront v form (before && more) text (drop (at + count) text) (take (at + count) after)
-  written_next known before more text at count room after simple own w m =
+  written_next known before more text at count code room after simple own w m =
+      let rest = drop at text in
+      let later = drop (at + count) text in
+      let next = simple_next before more text rest later (take at room) w.piece (take (at + count) after) code m w.here.begins in
       elim w.is [
         | inl image ↦
-            let stands = subst (λ l. StandsFor v form w.code l) (ap (λ n. bytes_of n (listed known.simple.now w.code)) w.here.size ∙ sym image.bytes) (simple w.code image.within image.known) in
-            simple_next before more text (drop at text) (drop (at + count) text) (take at room) w.piece (take (at + count) after) w.code m w.here.begins stands.utf8 stands.images
-            (λ t. stands.apart) stands.ends w.written
+            let bytes_are = ap (λ n. bytes_of n (listed known.simple.now code)) w.here.size ∙ sym image.bytes in
+            let stands = subst (λ l. StandsFor v form code l) bytes_are (simple code image.within image.known) in
+            next stands.utf8 stands.images (λ t. stands.apart) stands.ends w.written
         | inr kept ↦
-            let scalar : IsUtf8 w.piece = subst IsUtf8 (sym kept.1.bytes) (IsUtf8-front (drop at text) (encode_utf8 w.code) (drop (at + count) text) w.here.begins m.reads.utf8
-            (IsUtf8-past_char (drop at text) (drop (at + count) text) w.code m.reads.utf8 w.here.begins)) in
-            let alone : chars w.piece ≡ w.code ∷ [] = sym (one_code w.code w.piece kept.1.bytes scalar) in
-            simple_next before more text (drop at text) (drop (at + count) text) (take at room) w.piece (take (at + count) after) w.code m w.here.begins scalar
-            (subst (AreImages v (is_compat form) (w.code ∷ [])) (sym alone) (own w.code kept.1.marked)) (λ t. let bad : false ≡ true = sym kept.0 ∙ t in absurd (cc))
-            (λ b low none. subst (HasNo b) (sym kept.1.bytes) none) w.written
+            let behind = IsUtf8-past_char rest later code m.reads.utf8 w.here.begins in
+            let front = IsUtf8-front rest (encode_utf8 code) later w.here.begins m.reads.utf8 behind in
+            let scalar : IsUtf8 w.piece = subst IsUtf8 (sym kept.1.bytes) front in
+            let alone : chars w.piece ≡ code ∷ [] = sym (one_code code w.piece kept.1.bytes scalar) in
+            next scalar (subst (AreImages v (is_compat form) (code ∷ [])) (sym alone) (own code kept.1.marked))
+            (λ t. let bad : false ≡ true = sym kept.0 ∙ t in absurd (cc)) (λ b low none. subst (HasNo b) (sym kept.1.bytes) none) w.written
       ]
 
   -- the front of a text was made into its own form
@@ -144,7 +148,7 @@ stands_listed v form code own bytes image of_code is stands =
 pub simple_put : (v : FoldedVersion) (form : Form) (list : List SimpleImage) (code : ℕ) (image : SimpleImage) → code < length list → AreSimple v form list → IsSimple v form code image
     → AreSimple v form (slice_set list code image)
 simple_put v form list code image within done one c more =
-    let none : SimpleImage = record { first = 0; second = 0; third = 0 } in
+    let none : SimpleImage = record { bytes = 0 } in
     elim (cases_eq c code) [
       | inl here ↦
           subst (λ k. IsSimple v form k (listed (slice_set list code image) k)) (sym here)
@@ -153,9 +157,27 @@ simple_put v form list code image within done one c more =
           subst (λ i. IsSimple v form c i) (sym (get_or-set_other list code c image none other)) (done c (omega (arith, more, length-set list code image)))
     ]
 
-pub simple_none : (v : FoldedVersion) (form : Form) (n : ℕ) (none : SimpleImage) → none.first ≡ 0 → AreSimple v form (replicate n none)
+pub simple_none : (v : FoldedVersion) (form : Form) (n : ℕ) (none : SimpleImage) → none.bytes ≡ 0 → AreSimple v form (replicate n none)
 simple_none v form n none zero c within known =
-    absurd (known (ap (λ (i : SimpleImage). i.first) (get_or-replicate n c none (record { first = 0; second = 0; third = 0 }) (omega (arith, within, length-replicate n none))) ∙ zero))
+    absurd (known (ap (λ (i : SimpleImage). i.bytes) (get_or-replicate n c none (record { bytes = 0 }) (omega (arith, within, length-replicate n none))) ∙ zero))
+
+-- no control has an image behind such a change
+pub controls_put : (list : List SimpleImage) (code : ℕ) (image : SimpleImage) → 32 ≤ code → HaveNoControls list → HaveNoControls (slice_set list code image)
+controls_put list code image high none c low =
+    let other : c ≢ code = λ e. absurd (omega (arith, e, high, low)) in
+    ap (λ (i : SimpleImage). i.bytes) (get_or-set_other list code c image (record { bytes = 0 }) other) ∙ none c low
+
+pub controls_none : (n : ℕ) (none : SimpleImage) → 32 ≤ n → none.bytes ≡ 0 → HaveNoControls (replicate n none)
+controls_none n none long zero c low =
+    ap (λ (i : SimpleImage). i.bytes) (get_or-replicate n c none (record { bytes = 0 }) (omega (arith, long, low))) ∙ zero
+
+-- three bytes of one number
+pub unpacked : (x y z n : ℕ) → x < 256 → y < 256 → z < 256 → n ≡ x + 256 * y + 65536 * z → n % 256 ∷ n / 256 % 256 ∷ n / 65536 % 256 ∷ [] ≡ x ∷ y ∷ z ∷ []
+unpacked x y z n first second third is =
+    let one : n % 256 ≡ x = omega (arith, is, first, second, third) in
+    let two : n / 256 % 256 ≡ y = omega (arith, is, first, second, third) in
+    let three : n / 65536 % 256 ≡ z = omega (arith, is, first, second, third) in
+    ap₂ (λ a l. a ∷ l) one (ap₂ (λ a l. a ∷ l) two (ap (λ a. a ∷ []) three))
 
 -- ---- characters where they stand
 
@@ -168,6 +190,68 @@ from_begins bytes at count code some h =
       long = omega (arith, some, h.long, left);
       size = omega (arith, h.long, ap length h.parts, length-append (encode_utf8 code) (drop count (drop at bytes)), length-drop count (drop at bytes));
     }
+
+-- the bytes of a character, from those of its text
+module _ (bytes : List ℕ) (at count code : ℕ) (here : IsCodeAt bytes at count code) where
+  abbrev rest : List ℕ
+  rest = drop (at + count) bytes
+
+  read_byte : (i : ℕ) (encoded : List ℕ) → encode_utf8 code ≡ encoded → get_or bytes (at + i) 0 ≡ get_or (encoded ++ rest) i 0
+  read_byte i encoded is = sym (get_or-drop at bytes i 0) ∙ ap (λ l. get_or l i 0) (here.begins ∙ ap (λ l. l ++ rest) is)
+
+  first_byte : (encoded : List ℕ) → encode_utf8 code ≡ encoded → get_or bytes at 0 ≡ get_or (encoded ++ rest) 0 0
+  first_byte encoded is = ap (λ n. get_or bytes n 0) (omega arith) ∙ read_byte 0 encoded is
+
+  sized : (encoded : List ℕ) → encode_utf8 code ≡ encoded → length encoded ≡ count
+  sized encoded is = sym (ap length is) ∙ here.size
+
+  pub two_are : count ≡ 2 → get_or bytes at 0 * 64 + get_or bytes (at + 1) 0 ≡ code + 0x3080
+  two_are two =
+      elim (cases_lt code 0x80) [
+        | inl one ↦ absurd (omega (arith, two, sized (code ∷ []) (encode_one code one)))
+        | inr some ↦
+            elim (cases_lt code 0x800) [
+              | inl few ↦
+                  let is = encode_two code some few in
+                  let b0 : get_or bytes at 0 ≡ 192 + code / 64 = first_byte ((192 + code / 64) ∷ (128 + code % 64) ∷ []) is in
+                  let b1 : get_or bytes (at + 1) 0 ≡ 128 + code % 64 = read_byte 1 ((192 + code / 64) ∷ (128 + code % 64) ∷ []) is in
+                  omega (arith, b0, b1)
+              | inr many ↦
+                  elim (cases_lt code 0x10000) [
+                    | inl three ↦ absurd (omega (arith, two, sized ((224 + code / 4096) ∷ (128 + code / 64 % 64) ∷ (128 + code % 64) ∷ []) (encode_three code many three)))
+                    | inr four ↦ absurd (omega (
+                      arith,
+                      two,
+                      sized ((240 + code / 262144) ∷ (128 + code / 4096 % 64) ∷ (128 + code / 64 % 64) ∷ (128 + code % 64) ∷ []) (encode_four code four),
+                    ))
+                  ]
+            ]
+      ]
+
+  pub three_are : count ≡ 3 → get_or bytes at 0 * 4096 + get_or bytes (at + 1) 0 * 64 + get_or bytes (at + 2) 0 ≡ code + 0xE2080
+  three_are three =
+      elim (cases_lt code 0x80) [
+        | inl one ↦ absurd (omega (arith, three, sized (code ∷ []) (encode_one code one)))
+        | inr some ↦
+            elim (cases_lt code 0x800) [
+              | inl few ↦ absurd (omega (arith, three, sized ((192 + code / 64) ∷ (128 + code % 64) ∷ []) (encode_two code some few)))
+              | inr many ↦
+                  elim (cases_lt code 0x10000) [
+                    | inl fits ↦
+                        let encoded = (224 + code / 4096) ∷ (128 + code / 64 % 64) ∷ (128 + code % 64) ∷ [] in
+                        let is = encode_three code many fits in
+                        let b0 : get_or bytes at 0 ≡ 224 + code / 4096 = first_byte encoded is in
+                        let b1 : get_or bytes (at + 1) 0 ≡ 128 + code / 64 % 64 = read_byte 1 encoded is in
+                        let b2 : get_or bytes (at + 2) 0 ≡ 128 + code % 64 = read_byte 2 encoded is in
+                        omega (arith, b0, b1, b2)
+                    | inr four ↦ absurd (omega (
+                      arith,
+                      three,
+                      sized ((240 + code / 262144) ∷ (128 + code / 4096 % 64) ∷ (128 + code / 64 % 64) ∷ (128 + code % 64) ∷ []) (encode_four code four),
+                    ))
+                  ]
+            ]
+      ]
 
 module _ (bytes : List ℕ) (at : ℕ) (utf8 : IsUtf8 (drop at bytes)) where
   abbrev byte : ℕ → ℕ
@@ -188,18 +272,46 @@ module _ (bytes : List ℕ) (at : ℕ) (utf8 : IsUtf8 (drop at bytes)) where
         size = ap length encoded;
       }
 
-  pub two_at : (code : ℕ) → get_or bytes at 0 / 32 ≡ 6 → code ≡ get_or bytes at 0 % 32 * 64 + get_or bytes (at + 1) 0 % 64 → IsCodeAt bytes at 2 code
-  two_at code lead is =
-      let front = first_there in
-      let begins = begins_with_two (drop at bytes) utf8 (omega (arith, front, lead)) in
-      from_begins bytes at 2 code (omega arith) (subst (BeginsWith (drop at bytes) 2) (omega (arith, is, front, there 1)) begins)
+  module _ (lead : get_or bytes at 0 / 32 ≡ 6) where
+    abbrev code_of_two : ℕ
+    code_of_two = get_or bytes at 0 % 32 * 64 + byte 1 % 64
 
-  pub three_at : (code : ℕ) → get_or bytes at 0 / 16 ≡ 14 → code ≡ get_or bytes at 0 % 16 * 4096 + get_or bytes (at + 1) 0 % 64 * 64 + get_or bytes (at + 2) 0 % 64
-      → IsCodeAt bytes at 3 code
-  three_at code lead is =
-      let front = first_there in
-      let begins = begins_with_three (drop at bytes) utf8 (omega (arith, front, lead)) in
-      from_begins bytes at 3 code (omega arith) (subst (BeginsWith (drop at bytes) 3) (omega (arith, is, front, there 1, there 2)) begins)
+    two_there : IsCodeAt bytes at 2 code_of_two
+    two_there =
+        let front = first_there in
+        let begins = begins_with_two (drop at bytes) utf8 (omega (arith, front, lead)) in
+        from_begins bytes at 2 code_of_two (omega arith) (subst (BeginsWith (drop at bytes) 2) (omega (arith, front, there 1)) begins)
+
+    pub two_long : at + 1 < length bytes
+    two_long = omega (arith, two_there.long)
+
+    module _ (x y : ℕ) (first : x ≡ get_or bytes at 0) (second : y ≡ get_or bytes (at + 1) 0) where
+      pub two_fit : 0x3080 ≤ x * 64 + y
+      two_fit = omega (arith, first, second, two_are bytes at 2 code_of_two two_there refl)
+
+      pub two_at : IsCodeAt bytes at 2 (x * 64 + y - 0x3080)
+      two_at = subst (IsCodeAt bytes at 2) (omega (arith, first, second, two_are bytes at 2 code_of_two two_there refl)) two_there
+
+  module _ (lead : get_or bytes at 0 / 16 ≡ 14) where
+    abbrev code_of_three : ℕ
+    code_of_three = get_or bytes at 0 % 16 * 4096 + byte 1 % 64 * 64 + byte 2 % 64
+
+    three_there : IsCodeAt bytes at 3 code_of_three
+    three_there =
+        let front = first_there in
+        let begins = begins_with_three (drop at bytes) utf8 (omega (arith, front, lead)) in
+        from_begins bytes at 3 code_of_three (omega arith) (subst (BeginsWith (drop at bytes) 3) (omega (arith, front, there 1, there 2)) begins)
+
+    pub three_long : at + 2 < length bytes
+    three_long = omega (arith, three_there.long)
+
+    module _ (x y z : ℕ) (first : x ≡ get_or bytes at 0) (second : y ≡ get_or bytes (at + 1) 0) (third : z ≡ get_or bytes (at + 2) 0) where
+      pub three_fit : 0xE2080 ≤ x * 4096 + y * 64 + z
+      three_fit = omega (arith, first, second, third, three_are bytes at 3 code_of_three three_there refl)
+
+      pub three_at : IsCodeAt bytes at 3 (x * 4096 + y * 64 + z - 0xE2080)
+      three_at =
+          subst (IsCodeAt bytes at 3) (omega (arith, first, second, third, three_are bytes at 3 code_of_three three_there refl)) three_there
 
 -- bytes that are written one behind the other
 module _ (room : List ℕ) (at x y z : ℕ) where
@@ -271,14 +383,18 @@ front_grows text at count code here =
     omega (arith, here.size, here.long, length-take at text, length-append (take at text) (encode_utf8 code)) in
     ap (take (at + count)) whole ∙ take_at (take at text ++ encode_utf8 code) rest (at + count) size
 
-pub free_next : (stop : ℕ) (text : List ℕ) (at count code : ℕ) → stop < 128 → get_or text at 0 ≢ stop → IsCodeAt text at count code → 0 < count → HasNo stop (take at text)
-    → HasNo stop (take (at + count) text)
-free_next stop text at count code ascii other here some free =
-    let keeps = not_byte stop in
-    let first : code < 128 → code ≡ get_or text at 0 = λ low.
-    sym (ap (λ n. get_or text n 0) (omega arith) ∙ sym (get_or-drop at text 0 0) ∙ ap (λ l. get_or l 0 0) (here.begins ∙ ap (λ l. l ++ drop (at + count) text) (encode_one code low))) in
+pub free_code_next : (b : ℕ) (text : List ℕ) (at count code : ℕ) → b < 128 → code ≢ b → IsCodeAt text at count code → HasNo b (take at text)
+    → HasNo b (take (at + count) text)
+free_code_next b text at count code ascii other here free =
+    subst (HasNo b) (sym (front_grows text at count code here))
+    (All-append (not_byte b) (take at text) (encode_utf8 code) free (free_code b code ascii other))
+
+pub free_next : (stop : ℕ) (text : List ℕ) (at count code : ℕ) → stop < 128 → get_or text at 0 ≢ stop → IsCodeAt text at count code
+    → HasNo stop (take at text) → HasNo stop (take (at + count) text)
+free_next stop text at count code ascii other here free =
+    let first : code < 128 → code ≡ get_or text at 0 = λ low. sym (first_byte text at count code here (code ∷ []) (encode_one code low)) in
     let apart : code ≢ stop = λ e. other (sym (first (omega (arith, e, ascii))) ∙ e) in
-    subst (HasNo stop) (sym (front_grows text at count code here)) (All-append keeps (take at text) (encode_utf8 code) free (free_code stop code ascii apart))
+    free_code_next stop text at count code ascii apart here free
 
 -- ---- the bytes of a character
 

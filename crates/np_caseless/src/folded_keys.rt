@@ -50,7 +50,7 @@ impl<T: NormTable + Drop> FoldedTable<T> {
 
     /// Writes the caseless key of what stands before the first `stop` in a text, or of all where there is none, to the front of
     /// the room, where each code point there has an image of as many bytes. Answers how many bytes it has; none where it wasn't
-    /// made so, and then anything may stand in the room.
+    /// made so, as where `stop` is no control of ASCII, and then anything may stand in the room.
     #[inline(always)]
     pub fn write_key_before(
         &self,
@@ -67,6 +67,9 @@ impl<T: NormTable + Drop> FoldedTable<T> {
         ensures stop { IfSome result (λ n. n < length text.now → get_or text.now n 0 ≡ stop) }
         ensures key { IfSome result (λ n. IsSimpleKey self.now wanted (take n text.now) (take n room.new)) }
     {
+        if stop >= 32 {
+            return None;
+        }
         self.meets_conditions();
         let made = write_front(self.known_images(wanted), text, stop, room);
         let count = made.count;

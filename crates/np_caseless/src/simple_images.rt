@@ -1,5 +1,5 @@
 //! Images that have as many bytes as what they stand for, and stand for it whatever is around it.
-ghost use Rattle.std.specs.Prelude.{◌≡◌, ◌≢◌, ◌∷◌, [], ◌≤◌, ℕ, Bool, true, false, chars as code_points, encode_utf8, length, IfOk, IfSome, IsTrue, IsUtf8};
+ghost use Rattle.std.specs.Prelude.{◌≡◌, ◌≢◌, ◌+◌, ◌*◌, ◌∷◌, [], ◌≤◌, ℕ, Bool, true, false, chars as code_points, encode_utf8, length, IfOk, IfSome, IsTrue, IsUtf8};
 ghost use Rattle.std.specs.List.{All};
 ghost use Rattle.np_code_points.specs.Forms.{is_compat};
 ghost use Rattle.np_caseless.specs.Folded.{FoldedVersion};
@@ -7,7 +7,7 @@ ghost use Rattle.np_versions.specs.Boundaries.{BeginsAtBoundary};
 ghost use Rattle.np_caseless.specs.inside.Images.{AreImages};
 ghost use Rattle.np_caseless.specs.inside.ImageTables.{AreAllImages};
 ghost use Rattle.np_caseless.specs.SimpleKeys.{AddsNoControl};
-ghost use Rattle.np_caseless.specs.inside.SimpleImages.{AreOfForm, AreOfForms, IsApart, IsSimple, MayBecome, bytes_of};
+ghost use Rattle.np_caseless.specs.inside.SimpleImages.{AreOfForm, AreOfForms, HaveNoControls, IsApart, IsSimple, MayBecome, bytes_of};
 
 use crate::image_tables::Images;
 use crate::image_texts::{image_of, is_marked};
@@ -22,12 +22,10 @@ const SIMPLE: usize = 0x3000;
 /// The code points below this have theirs, folding or not: ASCII, the other signs of Latin-1, and letters.
 const FIRST: u32 = 0x250;
 
-/// The bytes of an image, as many as its code point has, and then zeros. The first is 0 where no image is known.
+/// The bytes of an image, as many as its code point has, the first one lowest; 0 where no image is known.
 #[derive(Clone, Copy)]
 pub(crate) struct SimpleImage {
-    pub(crate) first: u8,
-    pub(crate) second: u8,
-    pub(crate) third: u8,
+    pub(crate) bytes: u32,
 }
 
 /// The images by each form, at the places of their code points.
@@ -41,29 +39,30 @@ pub(crate) struct SimpleImages {
 
 /// No image.
 fn unknown() -> SimpleImage
-    ensures { result.first ≡ 0 }
+    ensures { result.bytes ≡ 0 }
+{
+    SimpleImage { bytes: 0 }
+}
+
+/// Three bytes as an image.
+#[inline(always)]
+pub(crate) fn packed(first: u8, second: u8, third: u8) -> SimpleImage
+    ensures { result.bytes ≡ first + 256 * second + 65536 * third }
 {
     SimpleImage {
-        first: 0,
-        second: 0,
-        third: 0,
+        bytes: u32::from(first) + 256 * u32::from(second) + 65536 * u32::from(third),
     }
 }
 
 /// Some bytes as an image, where they are one to three.
 fn image_with(bytes: &[u8]) -> SimpleImage
-    ensures { result.first ≢ 0 → bytes_of (length bytes.now) result ≡ bytes.now }
+    ensures { result.bytes ≢ 0 → bytes_of (length bytes.now) result ≡ bytes.now }
 {
-    let (first, second, third) = match bytes {
-        [first] => (*first, 0, 0),
-        [first, second] => (*first, *second, 0),
-        [first, second, third] => (*first, *second, *third),
-        _ => (0, 0, 0),
-    };
-    SimpleImage {
-        first,
-        second,
-        third,
+    match bytes {
+        [first] => packed(*first, 0, 0),
+        [first, second] => packed(*first, *second, 0),
+        [first, second, third] => packed(*first, *second, *third),
+        _ => unknown(),
     }
 }
 
@@ -88,8 +87,8 @@ fn adds_no_control(own: &str, image: &str) -> bool
 
 /// An image of a code point, where it has as many bytes and adds no control.
 fn image_like(own: &str, image: &str) -> SimpleImage
-    ensures bytes { result.first ≢ 0 → bytes_of (length own.now) result ≡ image.now }
-    ensures ends { result.first ≢ 0 → AddsNoControl own.now image.now }
+    ensures bytes { result.bytes ≢ 0 → bytes_of (length own.now) result ≡ image.now }
+    ensures ends { result.bytes ≢ 0 → AddsNoControl own.now image.now }
 {
     if image.len() == own.len() && adds_no_control(own, image) {
         image_with(image.as_bytes())
@@ -147,13 +146,14 @@ fn simple_image<T: NormTable>(table: &T, images: &Images, form: Form, code: char
     }
 }
 
-/// Puts the image of a code point to its place, where it has one and none is known yet.
+/// Puts the image of a code point to its place, where it has one and none is known yet, and it is no control of ASCII.
 fn put<T: NormTable>(table: &T, images: &Images, form: Form, code: char, list: &mut [SimpleImage])
     ensures length { length list.new ≡ length list.old }
     ensures simple { MayBecome (T.model table.now) images.now form list.old list.new }
+    ensures controls { HaveNoControls list.old → HaveNoControls list.new }
 {
     let at = u32::from(code) as usize;
-    if at < list.len() && list[at].first == 0 {
+    if 32 <= at && at < list.len() && list[at].bytes == 0 {
         list[at] = simple_image(table, images, form, code);
     }
 }
@@ -168,6 +168,7 @@ fn put_text<T: NormTable>(
 )
     ensures length { length list.new ≡ length list.old }
     ensures simple { MayBecome (T.model table.now) images.now form list.old list.new }
+    ensures controls { HaveNoControls list.old → HaveNoControls list.new }
 {
     for code in text.chars() {
         put(table, images, form, code, list);
@@ -178,6 +179,7 @@ fn put_text<T: NormTable>(
 fn put_first<T: NormTable>(table: &T, images: &Images, form: Form, list: &mut [SimpleImage])
     ensures length { length list.new ≡ length list.old }
     ensures simple { MayBecome (T.model table.now) images.now form list.old list.new }
+    ensures controls { HaveNoControls list.old → HaveNoControls list.new }
 {
     for code in 0..FIRST {
         if let Some(code) = char::from_u32(code) {
@@ -190,6 +192,7 @@ fn put_first<T: NormTable>(table: &T, images: &Images, form: Form, list: &mut [S
 fn put_folding<T: NormTable>(table: &T, images: &Images, form: Form, list: &mut [SimpleImage])
     ensures length { length list.new ≡ length list.old }
     ensures simple { MayBecome (T.model table.now) images.now form list.old list.new }
+    ensures controls { HaveNoControls list.old → HaveNoControls list.new }
 {
     for at in 0..images.of_foldings.len() {
         let image = &images.of_foldings[at];
@@ -202,6 +205,7 @@ fn put_folding<T: NormTable>(table: &T, images: &Images, form: Form, list: &mut 
 fn put_all<T: NormTable>(table: &T, images: &Images, form: Form, list: &mut [SimpleImage])
     ensures length { length list.new ≡ length list.old }
     ensures simple { MayBecome (T.model table.now) images.now form list.old list.new }
+    ensures controls { HaveNoControls list.old → HaveNoControls list.new }
 {
     put_first(table, images, form, list);
     put_folding(table, images, form, list);

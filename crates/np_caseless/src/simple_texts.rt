@@ -1,16 +1,16 @@
 //! Texts that are made into their caseless keys where they stand, each code point by an image that is as long.
-ghost use Rattle.std.specs.Prelude.{◌≡◌, ◌≢◌, ◌++◌, ◌+◌, ◌<◌, ◌≤◌, ◌/◌, drop, encode_utf8, get_or, length, take, IfNone, IfSome, IsTrue, IsUtf8};
+ghost use Rattle.std.specs.Prelude.{◌≡◌, ◌≢◌, ◌++◌, ◌+◌, ◌<◌, ◌≤◌, ◌/◌, ℕ, true, false, drop, encode_utf8, get_or, length, take, IfSome, IsFalse, IsTrue, IsUtf8};
 ghost use Rattle.np_code_points.specs.Forms.{is_compat};
 ghost use Rattle.np_code_points.specs.Lines.{HasNo};
 ghost use Rattle.np_code_points.specs.declared.forms.Form.{Form};
 ghost use Rattle.np_caseless.specs.Conditions.{IsSoundFolding};
 ghost use Rattle.np_caseless.specs.Folded.{FoldedVersion};
 ghost use Rattle.np_caseless.specs.inside.ImageTables.{IsMarked};
-ghost use Rattle.np_caseless.specs.inside.SimpleImages.{AreSimple, IsCodeAt, bytes_of, listed};
-ghost use Rattle.np_caseless.specs.inside.SimpleTexts.{AreOwn, IsCodeWritten, IsMadeOfFront};
+ghost use Rattle.np_caseless.specs.inside.SimpleImages.{AreSimple, HaveNoControls, IsCodeAt, bytes_of, listed};
+ghost use Rattle.np_caseless.specs.inside.SimpleTexts.{AreOwn, GoesOn, IsCodeWritten, IsMadeOfFront};
 
 use crate::image_texts::is_marked_code;
-use crate::simple_images::SimpleImage;
+use crate::simple_images::{SimpleImage, packed};
 
 /// The images that are known.
 #[derive(Clone, Copy)]
@@ -58,7 +58,7 @@ fn one_at(bytes: &[u8], at: usize) -> Character
     }
 }
 
-/// The character of two bytes at a place.
+/// The character of two bytes at a place. What marks these as such is taken off all at once.
 #[inline(always)]
 fn two_at(bytes: &[u8], at: usize) -> Character
     requires place { at < length bytes.now }
@@ -69,7 +69,7 @@ fn two_at(bytes: &[u8], at: usize) -> Character
     ensures place { result.at ≡ at }
     ensures count { result.count ≡ 2 }
 {
-    let code = usize::from(bytes[at] % 32) * 64 + usize::from(bytes[at + 1] % 64);
+    let code = usize::from(bytes[at]) * 64 + usize::from(bytes[at + 1]) - 0x3080;
     Character { at, count: 2, code }
 }
 
@@ -83,9 +83,10 @@ fn three_at(bytes: &[u8], at: usize) -> Character
     ensures place { result.at ≡ at }
     ensures count { result.count ≡ 3 }
 {
-    let code = usize::from(bytes[at] % 16) * 4096
-        + usize::from(bytes[at + 1] % 64) * 64
-        + usize::from(bytes[at + 2] % 64);
+    let code = usize::from(bytes[at]) * 4096
+        + usize::from(bytes[at + 1]) * 64
+        + usize::from(bytes[at + 2])
+        - 0xE_2080;
     Character { at, count: 3, code }
 }
 
@@ -98,12 +99,12 @@ fn put_image(image: SimpleImage, here: Character, room: &mut [u8])
     ensures length { length room.new ≡ length room.old }
     ensures written { take (here.at + here.count) room.new ≡ take here.at room.old ++ bytes_of here.count image }
 {
-    room[here.at] = image.first;
+    room[here.at] = (image.bytes % 256) as u8;
     if here.count > 1 {
-        room[here.at + 1] = image.second;
+        room[here.at + 1] = (image.bytes / 256 % 256) as u8;
     }
     if here.count > 2 {
-        room[here.at + 2] = image.third;
+        room[here.at + 2] = (image.bytes / 65536 % 256) as u8;
     }
 }
 
@@ -116,15 +117,10 @@ fn own_bytes(bytes: &[u8], here: Character) -> SimpleImage
     ensures { bytes_of here.count result ≡ encode_utf8 here.code }
 {
     let first = bytes[here.at];
-    let (second, third) = match here.count {
-        1 => (0, 0),
-        2 => (bytes[here.at + 1], 0),
-        _ => (bytes[here.at + 1], bytes[here.at + 2]),
-    };
-    SimpleImage {
-        first,
-        second,
-        third,
+    match here.count {
+        1 => packed(first, 0, 0),
+        2 => packed(first, bytes[here.at + 1], 0),
+        _ => packed(first, bytes[here.at + 1], bytes[here.at + 2]),
     }
 }
 
@@ -133,76 +129,136 @@ fn own_bytes(bytes: &[u8], here: Character) -> SimpleImage
 fn image_at(simple: &[SimpleImage], here: Character) -> Option<SimpleImage>
     requires size { length simple.now ≡ 0x3000 }
     requires within { here.count ≤ 2 → here.code < 0x3000 }
-    ensures { IfSome result (λ image. (here.code < length simple.now) × (image ≡ listed simple.now here.code) × (image.first ≢ 0)) }
+    ensures { IfSome result (λ image. (here.code < length simple.now) × (image ≡ listed simple.now here.code) × (image.bytes ≢ 0)) }
 {
     if here.count > 2 && here.code >= simple.len() {
         return None;
     }
     let image = simple[here.code];
-    if image.first == 0 { None } else { Some(image) }
+    if image.bytes == 0 { None } else { Some(image) }
 }
 
-/// Writes what stands for a character to where it stands: its image, or itself; answers whether that stands there whatever is
-/// around it, where something is known.
+/// Writes the image of a character to where it stands, where it is known to stand for it whatever is around it; answers whether
+/// it is. No control of ASCII has one.
 #[inline(always)]
-fn write_code(
-    known: KnownImages<'_>,
-    bytes: &[u8],
-    here: Character,
-    room: &mut [u8],
-) -> Option<bool>
+fn write_image(known: KnownImages<'_>, bytes: &[u8], here: Character, room: &mut [u8]) -> bool
     requires size { length known.simple.now ≡ 0x3000 }
+    requires controls { HaveNoControls known.simple.now }
     requires some { 0 < here.count }
     requires few { here.count ≤ 3 }
     requires within { here.count ≤ 2 → here.code < 0x3000 }
     requires here { IsCodeAt bytes.now here.at here.count here.code }
     requires room { length bytes.now ≤ length room.now }
     ensures length { length room.new ≡ length room.old }
-    ensures written { IfSome result (λ apart. IsCodeWritten known.entry bytes.now here.at here.count apart room.old room.new) }
-    ensures kept { IfNone result (room.new ≡ room.old) }
+    ensures written { IsTrue result → IsCodeWritten known.entry bytes.now here.at here.count here.code true room.old room.new }
+    ensures kept { IsFalse result → room.new ≡ room.old }
+    ensures control { IsTrue result → 32 ≤ here.code }
 {
-    if let Some(image) = image_at(known.simple, here) {
-        put_image(image, here, room);
-        return Some(true);
-    }
-    if !is_marked_code(known.own, here.code) {
-        return None;
-    }
-    put_image(own_bytes(bytes, here), here, room);
-    Some(false)
+    let Some(image) = image_at(known.simple, here) else {
+        return false;
+    };
+    put_image(image, here, room);
+    true
 }
 
-/// Writes what stands for the character at a place to that place; answers how many bytes it has, and whether that stands there
-/// whatever is around it, where something is known.
+/// Writes a character to where it stands, where it is its own image; answers whether it is.
 #[inline(always)]
-fn write_next(known: KnownImages<'_>, bytes: &[u8], at: usize, room: &mut [u8]) -> Option<MadeFront>
-    requires size { length known.simple.now ≡ 0x3000 }
-    requires place { at < length bytes.now }
-    requires utf8 { IsUtf8 (drop at bytes.now) }
+fn keep(known: KnownImages<'_>, bytes: &[u8], here: Character, room: &mut [u8]) -> bool
+    requires some { 0 < here.count }
+    requires few { here.count ≤ 3 }
+    requires here { IsCodeAt bytes.now here.at here.count here.code }
     requires room { length bytes.now ≤ length room.now }
     ensures length { length room.new ≡ length room.old }
-    ensures some { IfSome result (λ made. 0 < made.count) }
-    ensures written { IfSome result (λ made. IsCodeWritten known.entry bytes.now at made.count made.apart room.old room.new) }
-    ensures kept { IfNone result (room.new ≡ room.old) }
+    ensures written { IsTrue result → IsCodeWritten known.entry bytes.now here.at here.count here.code false room.old room.new }
+    ensures kept { IsFalse result → room.new ≡ room.old }
 {
-    let lead_byte = bytes[at];
-    if lead_byte < 0x80 {
-        let apart = write_code(known, bytes, one_at(bytes, at), room)?;
-        return Some(MadeFront { count: 1, apart });
+    if !is_marked_code(known.own, here.code) {
+        return false;
     }
-    if lead_byte / 32 == 6 {
-        let apart = write_code(known, bytes, two_at(bytes, at), room)?;
-        return Some(MadeFront { count: 2, apart });
-    }
-    if lead_byte / 16 != 14 {
-        return None;
-    }
-    let apart = write_code(known, bytes, three_at(bytes, at), room)?;
-    Some(MadeFront { count: 3, apart })
+    put_image(own_bytes(bytes, here), here, room);
+    true
 }
 
-/// Writes what stands for the code points of a text to the front of the room, up to the first `stop` or one of which nothing is
-/// known.
+/// Writes the images of the code points of a text from a place on, up to one that has none that is known to stand for it whatever
+/// is around it; answers the place of that one.
+#[inline(always)]
+fn write_simple(known: KnownImages<'_>, bytes: &[u8], from: usize, room: &mut [u8]) -> usize
+    requires size { length known.simple.now ≡ 0x3000 }
+    requires controls { HaveNoControls known.simple.now }
+    requires place { from ≤ length bytes.now }
+    requires utf8 { IsUtf8 (drop from bytes.now) }
+    requires room { length bytes.now ≤ length room.now }
+    ensures length { length room.new ≡ length room.old }
+    ensures later { from ≤ result }
+    ensures goes { GoesOn known.entry bytes.now from result true room.old room.new }
+    ensures free { (b : ℕ) → b < 32 → HasNo b (take from bytes.now) → HasNo b (take result bytes.now) }
+{
+    let mut at = from;
+    'codes: while at < bytes.len() {
+        let lead_byte = bytes[at];
+        if lead_byte < 0x80 {
+            if !write_image(known, bytes, one_at(bytes, at), room) {
+                return at;
+            }
+            at += 1;
+        } else if lead_byte / 32 == 6 {
+            if !write_image(known, bytes, two_at(bytes, at), room) {
+                return at;
+            }
+            at += 2;
+        } else if lead_byte / 16 == 14 {
+            if !write_image(known, bytes, three_at(bytes, at), room) {
+                return at;
+            }
+            at += 3;
+        } else {
+            return at;
+        }
+    }
+    at
+}
+
+/// Writes the code points of a text from a place on, up to a `stop` or one that isn't its own image; answers the place of that.
+#[inline(always)]
+fn keep_own(known: KnownImages<'_>, bytes: &[u8], from: usize, stop: u8, room: &mut [u8]) -> usize
+    requires ascii { stop < 128 }
+    requires place { from ≤ length bytes.now }
+    requires utf8 { IsUtf8 (drop from bytes.now) }
+    requires room { length bytes.now ≤ length room.now }
+    ensures length { length room.new ≡ length room.old }
+    ensures later { from ≤ result }
+    ensures goes { GoesOn known.entry bytes.now from result false room.old room.new }
+    ensures free { HasNo stop (take from bytes.now) → HasNo stop (take result bytes.now) }
+    ensures kept { result ≡ from → room.new ≡ room.old }
+{
+    let mut at = from;
+    'codes: while at < bytes.len() && bytes[at] != stop {
+        let lead_byte = bytes[at];
+        if lead_byte < 0x80 {
+            if !keep(known, bytes, one_at(bytes, at), room) {
+                return at;
+            }
+            at += 1;
+        } else if lead_byte / 32 == 6 {
+            if !keep(known, bytes, two_at(bytes, at), room) {
+                return at;
+            }
+            at += 2;
+        } else if lead_byte / 16 == 14 {
+            if !keep(known, bytes, three_at(bytes, at), room) {
+                return at;
+            }
+            at += 3;
+        } else {
+            return at;
+        }
+    }
+    at
+}
+
+/// Writes what stands for the code points of a text to the front of the room, up to the first `stop`, a control of ASCII, or one
+/// of which nothing is known: images as long as nothing else is needed, and then code points that are their own, in turns.
+#[inline(always)]
 pub(crate) fn write_front(
     known: KnownImages<'_>,
     text: &str,
@@ -210,7 +266,8 @@ pub(crate) fn write_front(
     room: &mut [u8],
 ) -> MadeFront
     requires size { length known.simple.now ≡ 0x3000 }
-    requires ascii { stop < 128 }
+    requires controls { HaveNoControls known.simple.now }
+    requires control { stop < 32 }
     requires room { length text.now ≤ length room.now }
     ensures length { length room.new ≡ length room.old }
     ensures within { result.count ≤ length text.now }
@@ -224,12 +281,18 @@ pub(crate) fn write_front(
         count: 0,
         apart: true,
     };
-    'codes: while front.count < bytes.len() && bytes[front.count] != stop {
-        let Some(next) = write_next(known, bytes, front.count, room) else {
-            return front;
+    'codes: loop {
+        let at = write_simple(known, bytes, front.count, room);
+        let count = keep_own(known, bytes, at, stop, room);
+        if count == at {
+            return MadeFront {
+                count,
+                apart: front.apart,
+            };
+        }
+        front = MadeFront {
+            count,
+            apart: false,
         };
-        front.count += next.count;
-        front.apart &= next.apart;
     }
-    front
 }

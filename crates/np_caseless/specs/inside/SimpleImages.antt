@@ -1,5 +1,5 @@
 -- Images that have as many bytes as what they stand for.
-use Rattle.std.specs.Prelude.{◌≡◌, ◌≢◌, ℕ, ◌+◌, ◌<◌, ◌≤◌, List, [], ◌∷◌, ◌++◌, chars, drop, encode_utf8, get_or, length, take, IsUtf8}
+use Rattle.std.specs.Prelude.{◌≡◌, ◌≢◌, ℕ, ◌+◌, ◌/◌, ◌%◌, ◌<◌, ◌≤◌, List, [], ◌∷◌, ◌++◌, chars, drop, encode_utf8, get_or, length, take, IsUtf8}
 use Rattle.np_code_points.specs.Forms.{is_compat}
 use Rattle.np_code_points.specs.declared.forms.Form.{Form}
 use Rattle.np_code_points.specs.declared.forms.Form.TheVariants.{Nfd, Nfc, Nfkd, Nfkc}
@@ -30,19 +30,23 @@ pub record StandsFor (v : FoldedVersion) (form : Form) (c : ℕ) (bytes : List �
 
 -- the first so many bytes of an image
 abbrev pub bytes_of : ℕ → SimpleImage → List ℕ
-bytes_of count image = take count (image.first ∷ image.second ∷ image.third ∷ [])
+bytes_of count image = take count (image.bytes % 256 ∷ image.bytes / 256 % 256 ∷ image.bytes / 65536 % 256 ∷ [])
 
 -- an image that is known has as many bytes as the code point, and they stand for it
 abbrev pub IsSimple : FoldedVersion → Form → ℕ → SimpleImage → Type 0
-IsSimple v form c image = image.first ≢ 0 → StandsFor v form c (bytes_of (length (encode_utf8 c)) image)
+IsSimple v form c image = image.bytes ≢ 0 → StandsFor v form c (bytes_of (length (encode_utf8 c)) image)
 
 -- the one of a code point in a list
 abbrev pub listed : List SimpleImage → ℕ → SimpleImage
-listed list c = get_or list c (record { first = 0; second = 0; third = 0 })
+listed list c = get_or list c (record { bytes = 0 })
 
 -- each at its code point
 abbrev pub AreSimple : FoldedVersion → Form → List SimpleImage → Type 0
 AreSimple v form list = (c : ℕ) → c < length list → IsSimple v form c (listed list c)
+
+-- no control of ASCII (below 32) has one
+abbrev pub HaveNoControls : List SimpleImage → Type 0
+HaveNoControls list = (c : ℕ) → c < 32 → (listed list c).bytes ≡ 0
 
 -- images of the kind of the form make one list of such images into another
 abbrev pub MayBecome : VersionData → Images → Form → List SimpleImage → List SimpleImage → Type 0
@@ -53,6 +57,7 @@ MayBecome version images form before after =
 pub record AreOfForm (v : FoldedVersion) (form : Form) (list : List SimpleImage) : Type 0 where
   pub size : length list ≡ 0x3000
   pub simple : AreSimple v form list
+  pub controls : HaveNoControls list
 
 -- those of each form
 pub record AreOfForms (v : FoldedVersion) (images : SimpleImages) : Type 0 where

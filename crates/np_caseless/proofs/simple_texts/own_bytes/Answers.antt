@@ -1,9 +1,13 @@
-use Rattle.std.proofs.Common.{◌+◌, get_or, refl}
-use Rattle.np_caseless.proofs.SimpleLemmas.{own_is}
+use Rattle.std.proofs.Common.{◌+◌, ◌<◌, ℕ, get_or, take, ap, refl, ◌∙◌, arith}
+use Rattle.np_caseless.proofs.SimpleLemmas.{own_is, unpacked}
 use Rattle.np_caseless.proofs.simple_texts.own_bytes.Goals as goal
 
 pub returns-in_default : goal.returns-in_default
 returns-in_default c =
     let bytes = c.args.bytes.now in
     let here = c.args.here in
-    own_is bytes here.at here.count here.code (get_or bytes (here.at + 1) 0) (get_or bytes (here.at + 2) 0) c.requires.here c.requires.some c.requires.few (λ more. refl) (λ more. refl)
+    let second = get_or bytes (here.at + 1) 0 in
+    let third = get_or bytes (here.at + 2) 0 in
+    let low : (i : ℕ) → get_or bytes i 0 < 256 = λ i. omega (arith, c.type_inv.bytes i) in
+    ap (take here.count) (unpacked (get_or bytes here.at 0) second third c.packed-in_default.result.bytes (low here.at) (low (here.at + 1)) (low (here.at + 2)) c.packed-in_default.ensures)
+    ∙ own_is bytes here.at here.count here.code second third c.requires.here c.requires.some c.requires.few (λ more. refl) (λ more. refl)

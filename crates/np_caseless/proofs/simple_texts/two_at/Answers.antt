@@ -1,14 +1,13 @@
-use Rattle.std.proofs.Common.{◌+◌, ◌*◌, ◌%◌, get_or, refl, arith}
-use Rattle.np_caseless.proofs.SimpleLemmas.{two_at}
+use Rattle.np_caseless.proofs.SimpleLemmas.{two_at, two_fit, two_long}
 use Rattle.np_caseless.proofs.simple_texts.two_at.Goals as goal
 
 pub bounds-bytes-at-2 : goal.bounds-bytes-at-2
-bounds-bytes-at-2 c =
-    let bytes = c.args.bytes.now in
-    let at = c.args.at in
-    let code = get_or bytes at 0 % 32 * 64 + get_or bytes (at + 1) 0 % 64 in
-    omega (arith, (two_at bytes at c.requires.utf8 code c.requires.lead_byte refl).long)
+bounds-bytes-at-2 c = two_long c.args.bytes.now c.args.at c.requires.utf8 c.requires.lead_byte
+
+pub overflow_sub-code : goal.overflow_sub-code
+overflow_sub-code c =
+    two_fit c.args.bytes.now c.args.at c.requires.utf8 c.requires.lead_byte c.from.result c.from-2.result c.from.ensures c.from-2.ensures
 
 pub returns-clause-here : goal.returns-clause-here
 returns-clause-here c =
-    two_at c.args.bytes.now c.args.at c.requires.utf8 (c.from.result * 64 + c.from-2.result) c.requires.lead_byte (omega (arith, c.from.ensures, c.from-2.ensures))
+    two_at c.args.bytes.now c.args.at c.requires.utf8 c.requires.lead_byte c.from.result c.from-2.result c.from.ensures c.from-2.ensures

@@ -1,47 +1,46 @@
-use Rattle.std.proofs.Common.{◌≢◌, ◌+◌, ◌≤◌, ◌<◌, List, ℕ, drop, get_or, length, take, refl, sym, ap, subst, ◌∙◌, arith, IsUtf8}
+use Rattle.std.proofs.Common.{◌&&◌, Bool, List, ℕ, false, true, drop, take, refl, subst, ◌∙◌, arith}
 use Rattle.std.proofs.lemmas.List.Elements.{All-nil}
 use Rattle.np_code_points.specs.Lines.{HasNo}
 use Rattle.np_code_points.proofs.LineGrammar.{not_byte}
-use Rattle.np_forms.proofs.Words.{IsUtf8-past_char}
-use Rattle.np_caseless.specs.inside.SimpleTexts.{IsCodeWritten, IsMadeOfFront}
-use Rattle.np_caseless.proofs.SimpleLemmas.{free_next, simple_start, written_next}
+use Rattle.np_caseless.specs.inside.SimpleTexts.{GoesOn, IsMadeOfFront}
+use Rattle.np_caseless.proofs.FrontLemmas.{and_none, stays}
+use Rattle.np_caseless.proofs.SimpleLemmas.{simple_start}
 use Rattle.np_caseless.proofs.simple_texts.write_front.Goals as goal
 
 pub codes-init : goal.codes-init
-codes-init c = (omega arith, refl, c.utf8.text, All-nil (not_byte c.args.stop), λ v form sound simple own. simple_start v sound form c.args.text.now c.utf8.text)
-
-pub write_next-requires-clause-utf8 : goal.write_next-requires-clause-utf8
-write_next-requires-clause-utf8 c = subst (λ (l : List ℕ). IsUtf8 (drop c.codes.front.count l)) (sym c.as_bytes-bytes.ensures.value) c.codes.invariant.2
-
-pub returns-in_default-clause-free : goal.returns-in_default-clause-free
-returns-in_default-clause-free c = c.codes.invariant.3
-
-pub returns-in_default-clause-made : goal.returns-in_default-clause-made
-returns-in_default-clause-made c = λ v form sound simple own.
+codes-init c =
     let text = c.args.text.now in
-    let at = c.codes.front.count in
-    subst (λ room. IsMadeOfFront v form c.codes.front.apart text (drop at text) (take at room)) (sym c.in_default.ensures.kept) (c.codes.invariant.4 v form sound simple own)
+    (omega arith, refl, c.utf8.text, All-nil (not_byte c.args.stop), λ v form sound simple own. simple_start v sound form text c.utf8.text)
 
-pub codes-smaller : goal.codes-smaller
-codes-smaller c =
-    let some = c.in-Some.ensures.some in
-    let within = c.codes-test.true in
-    let size = ap length c.as_bytes-bytes.ensures.value in
-    omega (arith, some, within, size)
+pub returns-then-count-at-clause-made : goal.returns-then-count-at-clause-made
+returns-then-count-at-clause-made c = λ v form sound simple own.
+    let text = c.args.text.now in
+    let front = c.codes.front in
+    let one = c.write_simple-at in
+    let two = c.keep_own-count in
+    let images = subst (λ (l : List ℕ). GoesOn c.args.known l front.count one.result true c.codes.room one.new.room) c.as_bytes-bytes.ensures.value one.ensures.goes in
+    let made = images.made v form front.apart sound simple own (c.codes.invariant.4 v form sound simple own) in
+    stays v form front.apart text one.new.room two.new.room one.result two.result c.if-count-at.true (two.ensures.kept c.if-count-at.true) made
 
 pub codes-preserved : goal.codes-preserved
 codes-preserved c =
     let text = c.args.text.now in
-    let at = c.codes.front.count in
-    let count = c.in-Some.next.count in
+    let stop = c.args.stop in
+    let front = c.codes.front in
     let kept = c.codes.invariant in
-    let bytes_are = c.as_bytes-bytes.ensures.value in
-    let w = subst (λ l. IsCodeWritten c.args.known l at count c.in-Some.next.apart c.codes.room c.write_next.new.room) bytes_are c.in-Some.ensures.written in
-    let other : get_or text at 0 ≢ c.args.stop = subst (λ (l : List ℕ). get_or l at 0 ≢ c.args.stop) bytes_are c.if-bytes-front.true in (
-      w.here.long,
-      c.in-Some.ensures.length ∙ kept.1,
-      IsUtf8-past_char (drop at text) (drop (at + count) text) w.code kept.2 w.here.begins,
-      free_next c.args.stop text at count w.code c.requires.ascii other w.here c.in-Some.ensures.some kept.3,
-      λ v form sound simple own.
-          written_next v sound form c.args.known c.codes.front.apart c.in-Some.next.apart text at count c.codes.room c.write_next.new.room simple own w (kept.4 v form sound simple own),
+    let one = c.write_simple-at in
+    let two = c.keep_own-count in
+    let is = c.as_bytes-bytes.ensures.value in
+    let images = subst (λ (l : List ℕ). GoesOn c.args.known l front.count one.result true c.codes.room one.new.room) is one.ensures.goes in
+    let own = subst (λ (l : List ℕ). GoesOn c.args.known l one.result two.result false one.new.room two.new.room) is two.ensures.goes in
+    let free_images : HasNo stop (take one.result text) =
+    subst (λ (l : List ℕ). HasNo stop (take front.count l) → HasNo stop (take one.result l)) is (one.ensures.free stop c.requires.control) kept.3 in (
+      own.within,
+      two.ensures.length ∙ one.ensures.length ∙ kept.1,
+      own.utf8,
+      subst (λ (l : List ℕ). HasNo stop (take one.result l) → HasNo stop (take two.result l)) is two.ensures.free free_images,
+      λ v form sound simple marked.
+          let made = images.made v form front.apart sound simple marked (kept.4 v form sound simple marked) in
+          subst (λ (b : Bool). IsMadeOfFront v form b text (drop two.result text) (take two.result two.new.room)) (and_none (front.apart && true))
+          (own.made v form (front.apart && true) sound simple marked made),
     )

@@ -1,9 +1,6 @@
-use Rattle.std.proofs.Common.{[], List, ℕ, chars, length, sym, subst, arith}
+use Rattle.std.proofs.Common.{[], chars, length, sym, subst, arith}
 use Rattle.std.proofs.lemmas.Bool.{eqb-true}
 use Rattle.std.proofs.lemmas.List.{append-nil, take_all}
-use Rattle.np_code_points.specs.declared.forms.Form.{Form}
-use Rattle.np_forms.specs.Assigned.{IsAssigned}
-use Rattle.np_forms.specs.Forms.{IsNormalForm}
 use Rattle.np_forms.specs.Parts.{IsEachPartStable}
 use Rattle.np_versions.specs.Versions.{VersionData}
 use Rattle.np_caseless.proofs.folded_tables.FoldedTable.is_own_form.Goals as goal
