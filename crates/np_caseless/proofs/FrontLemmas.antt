@@ -7,7 +7,8 @@ use Rattle.np_caseless.specs.Folded.{FoldedVersion}
 use Rattle.np_caseless.specs.inside.SimpleTexts.{GoesOn, IsCodeWritten, IsMadeOfFront}
 use Rattle.np_caseless.specs.declared.simple_texts.Character.{Character}
 use Rattle.np_caseless.specs.declared.simple_texts.KnownImages.{KnownImages}
-use Rattle.np_caseless.proofs.SimpleLemmas.{free_code_next, free_next, written_next}
+use Rattle.np_caseless.proofs.CharacterLemmas.{free_code_next, free_next}
+use Rattle.np_caseless.proofs.SimpleLemmas.{written_next}
 
 pub and_joined : (a b c : Bool) → (a && b) && c ≡ a && (b && c)
 and_joined true b c = refl

@@ -4,6 +4,7 @@ pub mod AuditLemmas
 pub mod BackwardLemmas
 pub mod BreakLemmas
 pub mod ChangeLemmas
+pub mod CharacterLemmas
 pub mod ConditionLemmas
 pub mod ExampleLemmas
 pub mod FineLemmas

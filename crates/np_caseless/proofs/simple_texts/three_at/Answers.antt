@@ -1,5 +1,5 @@
 use Rattle.std.proofs.Common.{arith}
-use Rattle.np_caseless.proofs.SimpleLemmas.{three_at, three_fit, three_long}
+use Rattle.np_caseless.proofs.CharacterLemmas.{three_at, three_fit, three_long}
 use Rattle.np_caseless.proofs.simple_texts.three_at.Goals as goal
 
 pub bounds-bytes-at-2 : goal.bounds-bytes-at-2

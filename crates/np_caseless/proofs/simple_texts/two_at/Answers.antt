@@ -1,4 +1,4 @@
-use Rattle.np_caseless.proofs.SimpleLemmas.{two_at, two_fit, two_long}
+use Rattle.np_caseless.proofs.CharacterLemmas.{two_at, two_fit, two_long}
 use Rattle.np_caseless.proofs.simple_texts.two_at.Goals as goal
 
 pub bounds-bytes-at-2 : goal.bounds-bytes-at-2

@@ -18,7 +18,8 @@ returns-then-count-at-clause-made c = λ v form sound simple own.
     let front = c.codes.front in
     let one = c.write_simple-at in
     let two = c.keep_own-count in
-    let images = subst (λ (l : List ℕ). GoesOn c.args.known l front.count one.result true c.codes.room one.new.room) c.as_bytes-bytes.ensures.value one.ensures.goes in
+    let is = c.as_bytes-bytes.ensures.value in
+    let images = subst (λ (l : List ℕ). GoesOn c.args.known l front.count one.result true c.codes.room one.new.room) is one.ensures.goes in
     let made = images.made v form front.apart sound simple own (c.codes.invariant.4 v form sound simple own) in
     stays v form front.apart text one.new.room two.new.room one.result two.result c.if-count-at.true (two.ensures.kept c.if-count-at.true) made
 
