@@ -34,9 +34,10 @@ def check_crate(tally, tool, crate):
 
 
 def main():
-    tally, tool = Tally(), Path(shutil.which("rt")).resolve().with_name("rattle")
-    for source in sorted(ROOT.glob("crates/*/src")):
-        check_crate(tally, tool, source.parent)
+    tally, kit = Tally(), shutil.which("rt")
+    tally.check("the toolchain is on the path", kit is not None, "there is no rt")
+    for source in sorted(ROOT.glob("crates/*/src")) if kit else ():
+        check_crate(tally, Path(kit).resolve().with_name("rattle"), source.parent)
     tally.finish()
 
 
