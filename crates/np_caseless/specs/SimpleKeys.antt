@@ -1,5 +1,5 @@
 -- Caseless keys that are told with what lines ask of them.
-use Rattle.std.specs.Prelude.{ℕ, ◌<◌, List, chars, IsUtf8}
+use Rattle.std.specs.Prelude.{◌≡◌, ℕ, ◌<◌, List, ◌++◌, chars, IsUtf8}
 use Rattle.np_code_points.specs.Lines.{HasNo}
 use Rattle.np_code_points.specs.declared.forms.Form.{Form}
 use Rattle.np_forms.specs.Assigned.{IsAssigned}
@@ -16,3 +16,7 @@ pub record IsSimpleKey (v : FoldedVersion) (form : Form) (text key : List ℕ) :
   pub caseless : IsCaseless v form (chars text) (chars key)
   pub assigned : IsAssigned v.version (chars text)
   pub ends : AddsNoControl text key
+
+-- wherever a part begins and ends, its code points are assigned, and it is its own caseless list
+abbrev pub IsEachPartOwnKey : FoldedVersion → Form → List ℕ → Type 0
+IsEachPartOwnKey v form cs = (before part after : List ℕ) → cs ≡ before ++ (part ++ after) → IsAssigned v.version part × IsCaseless v form part part

@@ -1,16 +1,17 @@
 //! Caseless keys by the images of code points.
 ghost use Rattle.std.specs.Prelude.{◌≡◌, ◌<◌, ◌≤◌, chars, get_or, length, string_bytes, take, IfOk, IfErr, IfSome, IsSome, IsTrue, OnOk};
 ghost use Rattle.std.specs.Cow.{cow_str_bytes};
+ghost use Rattle.std.specs.Str.{IsCharBoundary};
 ghost use Rattle.np_forms.specs.Assigned.{IsAssigned};
 ghost use Rattle.np_forms.specs.Faults.{IsNpssFault};
 ghost use Rattle.np_forms.specs.Forms.{IsNormalForm};
 ghost use Rattle.np_code_points.specs.Lines.{HasNo};
 ghost use Rattle.np_caseless.specs.Caseless.{IsCaseless};
-ghost use Rattle.np_caseless.specs.SimpleKeys.{IsSimpleKey};
+ghost use Rattle.np_caseless.specs.SimpleKeys.{IsEachPartOwnKey, IsSimpleKey};
 
 use crate::ascii::folded_text;
 use crate::folded_tables::FoldedTable;
-use crate::image_texts::{are_marked, image_text};
+use crate::image_texts::{are_marked, behind_marked, image_text};
 use crate::keys::caseless_key;
 use crate::simple_texts::write_front;
 use np_code_points::{Form, Memory};
@@ -39,13 +40,16 @@ impl<T: NormTable + Drop> FoldedTable<T> {
         quick_check_span(self.table(), wanted, text) == text.len()
     }
 
-    /// Whether a text is known to be its own caseless key. Takes no memory.
-    pub fn is_own_key(&self, wanted: Form, text: &str) -> bool
-        ensures { IsTrue result → IsSimpleKey self.now wanted text.now text.now }
+    /// How many bytes at the front of a text are known to be their own caseless keys, each part of them for itself. Takes no
+    /// memory.
+    pub fn own_key_span(&self, wanted: Form, text: &str) -> usize
+        ensures boundary { IsCharBoundary text.now result }
+        ensures own { IsEachPartOwnKey self.now wanted (chars (take result text.now)) }
     {
         self.meets_conditions();
-        are_marked(self.images(wanted.compat()).own.as_slice(), text)
-            && self.is_own_form(wanted, text)
+        let behind = behind_marked(self.images(wanted.compat()).own.as_slice(), text);
+        let (front, _behind) = text.split_at(text.len() - behind.len());
+        quick_check_span(self.table(), wanted, front)
     }
 
     /// Writes the caseless key of what stands before the first `stop` in a text, or of all where there is none, to the front of

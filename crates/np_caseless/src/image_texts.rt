@@ -41,7 +41,7 @@ pub(crate) fn are_marked(own: &[u8], text: &str) -> bool
 }
 
 /// What follows the code points at the front of a text that are marked.
-fn behind_marked<'t>(own: &[u8], text: &'t str) -> &'t str
+pub(crate) fn behind_marked<'t>(own: &[u8], text: &'t str) -> &'t str
     ensures { (front : List ℕ) × IsRead text.now result.now front × All (IsMarked own.now) front }
 {
     let mut rest = text;
