@@ -13,6 +13,7 @@ use crate::ascii::folded_text;
 use crate::folded_tables::FoldedTable;
 use crate::image_texts::{are_marked, behind_marked, image_text};
 use crate::keys::caseless_key;
+use crate::own_forms::is_own_form;
 use crate::simple_texts::write_front;
 use np_code_points::{Form, Memory};
 use np_forms::{NpssFault, first_unassigned_char, into_npss, lend_npss, quick_check_span};
@@ -32,14 +33,6 @@ fn refusal<T: NormTable>(table: &T, text: &str) -> NpssFault
 }
 
 impl<T: NormTable + Drop> FoldedTable<T> {
-    /// Whether a text is known to be its own form, and assigned.
-    fn is_own_form(&self, wanted: Form, text: &str) -> bool
-        ensures form { IsTrue result → IsNormalForm self.now.version wanted (chars text.now) (chars text.now) }
-        ensures assigned { IsTrue result → IsAssigned self.now.version (chars text.now) }
-    {
-        quick_check_span(self.table(), wanted, text) == text.len()
-    }
-
     /// How many bytes at the front of a text are known to be their own caseless keys, each part of them for itself. Takes no
     /// memory.
     pub fn own_key_span(&self, wanted: Form, text: &str) -> usize
@@ -84,7 +77,7 @@ impl<T: NormTable + Drop> FoldedTable<T> {
             return Some(count);
         }
         let key = unsafe { from_utf8_unchecked(&room[..count]) };
-        if self.is_own_form(wanted, key) {
+        if is_own_form(self.table(), wanted, key) {
             Some(count)
         } else {
             None

@@ -22,6 +22,7 @@ mod leasts;
 mod lent_parts;
 mod mapped_rows;
 mod not_folded;
+mod own_forms;
 mod own_images;
 mod quick_images;
 mod quiet;

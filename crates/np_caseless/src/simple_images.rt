@@ -11,8 +11,8 @@ ghost use Rattle.np_caseless.specs.inside.SimpleImages.{AreOfForm, AreOfForms, H
 
 use crate::image_tables::Images;
 use crate::image_texts::{image_of, is_marked};
+use crate::own_forms::is_own_form;
 use np_code_points::{Form, Memory};
-use np_forms::quick_check_span;
 use np_versions::NormTable;
 use std::alloc::Global;
 
@@ -125,7 +125,7 @@ fn begins_apart<T: NormTable>(table: &T, form: Form, text: &str) -> bool
 fn is_apart<T: NormTable>(table: &T, form: Form, text: &str) -> bool
     ensures { IsTrue result → (v : FoldedVersion) → v.version ≡ T.model table.now → IsApart v form text.now }
 {
-    begins_apart(table, form, text) && quick_check_span(table, form, text) == text.len()
+    begins_apart(table, form, text) && is_own_form(table, form, text)
 }
 
 /// The image of a code point, where it is known and as said.
