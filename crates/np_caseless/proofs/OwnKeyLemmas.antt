@@ -25,7 +25,8 @@ all_of_part P before part after all =
     subst (All P) (take_at part after (length part) refl) (All-take P (length part) (part ++ after) behind)
 
 -- each part of code points that are their own images is its own caseless key where it is its own form
-pub each_own : (v : FoldedVersion) → IsSound v.version → (form : Form) (own cs : List ℕ) → ((c : ℕ) → IsMarked own c → AreImages v (is_compat form) (c ∷ []) (c ∷ []))
+pub each_own : (v : FoldedVersion) → IsSound v.version → (form : Form) (own cs : List ℕ)
+    → ((c : ℕ) → IsMarked own c → AreImages v (is_compat form) (c ∷ []) (c ∷ []))
     → All (IsMarked own) cs → IsEachPartStable v.version form cs → IsEachPartOwnKey v form cs
 each_own v sound form own cs each marked stable = λ before part after is.
     let both = stable before part after is in
@@ -36,7 +37,9 @@ each_own v sound form own cs each marked stable = λ before part after is.
 module _ (text rest front read : List ℕ) (m n : ℕ) (reads : IsRead text rest read) (cut : m ≡ length text - length rest) (is : front ≡ take m text)
     (of_text : IsUtf8 text) (at : IsCharBoundary front n) where
   of_front : IsUtf8 front
-  of_front = subst IsUtf8 (sym is) (IsUtf8-take text m of_text (subst (IsCharBoundary text) (sym cut) (seam text (encode_utf8_all read) rest reads.bytes reads.utf8)))
+  of_front =
+      subst IsUtf8 (sym is)
+      (IsUtf8-take text m of_text (subst (IsCharBoundary text) (sym cut) (seam text (encode_utf8_all read) rest reads.bytes reads.utf8)))
 
   within : n ≤ m
   within = omega (arith, at.0, ap length is, length-take-le m text (omega (arith, cut)))

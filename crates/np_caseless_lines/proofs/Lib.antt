@@ -1,2 +1,3 @@
 pub mod AsciiLemmas
+pub mod OwnLineLemmas
 pub mod SimpleLineLemmas

@@ -1,9 +1,9 @@
-//! Lines of which each code point has an image that is as long: their keys are written where the answers stand, one by one.
-ghost use Rattle.std.specs.Prelude.{◌≡◌, [], ◌*◌, ◌≤◌, ◌<◌, length, take, IfOk, IfSome, IsUtf8};
-ghost use Rattle.np_caseless.specs.Caseless.{IsCaseless};
-ghost use Rattle.np_caseless_lines.specs.inside.Written.{IsLineWritten};
-ghost use Rattle.np_lines.specs.Answers.{IsAnswerBy};
-ghost use Rattle.np_lines.specs.Pushed.{ArePushed};
+//! Lines of which each code point has an image that is as long: their keys are written where the answers stand, one by one. And
+//! lines that are their own keys: these are told of many lines at once.
+ghost use Rattle.std.specs.Prelude.{◌≡◌, [], ◌*◌, ◌≤◌, ◌<◌, chars, length, take, IfOk, IfSome, IsUtf8};
+ghost use Rattle.np_caseless.specs.Folded.{FoldedVersion};
+ghost use Rattle.np_caseless.specs.SimpleKeys.{IsEachPartOwnKey};
+ghost use Rattle.np_caseless_lines.specs.inside.Written.{AreAnswered, IsLineWritten};
 
 use crate::ascii::push_unfolded;
 use np_caseless::FoldedTable;
@@ -13,6 +13,9 @@ use np_versions::NormTable;
 
 /// How many bytes of a text are answered at once, at most: there is room for the answers of so many.
 const WINDOW: usize = 1000;
+
+/// How many bytes of a text are looked at for lines that are their own keys before such a line was found, at most.
+const FIRST: usize = 125;
 
 /// What was answered of a text.
 #[derive(Clone, Copy)]
@@ -58,7 +61,7 @@ fn write_lines<'a, T: NormTable + Drop>(
     requires { 2 * length text.now ≤ length room.now }
     ensures length { length room.new ≡ length room.old }
     ensures within { result.count ≤ length room.new }
-    ensures pushed { ArePushed (IsAnswerBy (IsCaseless folded.now form) folded.now.version end) end text.now result.rest.now [] (take result.count room.new) }
+    ensures pushed { AreAnswered folded.now form end text.now result.rest.now [] (take result.count room.new) }
     ensures utf8 { IsUtf8 result.rest.now }
 {
     let mut written = WrittenLines {
@@ -85,8 +88,7 @@ fn push_window<'a, T: NormTable + Drop>(
     out: &mut Vec<u8>,
 ) -> Result<&'a str, Memory>
     requires { length window.now ≤ 1000 }
-    ensures pushed { IfOk result (λ rest. ArePushed (IsAnswerBy (IsCaseless folded.now form) folded.now.version end) end
-        window.now rest.now out.old.items out.new.items) }
+    ensures pushed { IfOk result (λ rest. AreAnswered folded.now form end window.now rest.now out.old.items out.new.items) }
     ensures utf8 { IfOk result (λ rest. IsUtf8 rest.now) }
 {
     let from = out.len();
@@ -107,8 +109,7 @@ fn push_made<'a, T: NormTable + Drop>(
     text: &'a str,
     out: &mut Vec<u8>,
 ) -> Result<&'a str, Memory>
-    ensures pushed { IfOk result (λ rest. ArePushed (IsAnswerBy (IsCaseless folded.now form) folded.now.version end) end
-        text.now rest.now out.old.items out.new.items) }
+    ensures pushed { IfOk result (λ rest. AreAnswered folded.now form end text.now rest.now out.old.items out.new.items) }
     ensures utf8 { IfOk result (λ rest. IsUtf8 rest.now) }
 {
     let (window, _behind) = text.split_at(text.floor_char_boundary(WINDOW));
@@ -116,7 +117,42 @@ fn push_made<'a, T: NormTable + Drop>(
     Ok(&text[window.len() - left.len()..])
 }
 
-/// Appends the answer to the first line of a text where its key is the line, and answers what is left of the text.
+/// Appends the answers to the lines that end in a text of which each part is its own caseless key, and answers what follows them.
+fn push_each<'a>(end: LineEnd, own: &'a str, out: &mut Vec<u8>) -> Result<&'a str, Memory>
+    requires { length own.now ≤ 1000 }
+    ensures pushed { IfOk result (λ rest. (v : FoldedVersion) (form : Form) → IsEachPartOwnKey v form (chars own.now) →
+        AreAnswered v form end own.now rest.now out.old.items out.new.items) }
+    ensures utf8 { IfOk result (λ rest. IsUtf8 rest.now) }
+{
+    let mut rest = own;
+    'lines: loop {
+        let Some((line, behind)) = cut_line(rest, end) else {
+            return Ok(rest);
+        };
+        push_unfolded(out, line.as_bytes(), end)?;
+        rest = behind;
+    }
+}
+
+/// Appends the answers to the lines at the front of a window of a text that are their own keys, and answers what is left of it.
+fn push_own_window<'a, T: NormTable + Drop>(
+    folded: &FoldedTable<T>,
+    form: Form,
+    end: LineEnd,
+    window: &'a str,
+    out: &mut Vec<u8>,
+) -> Result<&'a str, Memory>
+    requires { length window.now ≤ 1000 }
+    ensures pushed { IfOk result (λ rest. AreAnswered folded.now form end window.now rest.now out.old.items out.new.items) }
+    ensures utf8 { IfOk result (λ rest. IsUtf8 rest.now) }
+{
+    let (own, _behind) = window.split_at(folded.own_key_span(form, window));
+    let left = push_each(end, own, out)?;
+    Ok(&window[own.len() - left.len()..])
+}
+
+/// Appends the answers to the lines at the front of a text that are their own keys, and answers what is left of it: the text where
+/// its first line isn't, or isn't short. Little is looked at until a line was answered, and then ever more.
 fn push_own<'a, T: NormTable + Drop>(
     folded: &FoldedTable<T>,
     form: Form,
@@ -124,18 +160,21 @@ fn push_own<'a, T: NormTable + Drop>(
     text: &'a str,
     out: &mut Vec<u8>,
 ) -> Result<&'a str, Memory>
-    ensures pushed { IfOk result (λ rest. ArePushed (IsAnswerBy (IsCaseless folded.now form) folded.now.version end) end
-        text.now rest.now out.old.items out.new.items) }
+    ensures pushed { IfOk result (λ rest. AreAnswered folded.now form end text.now rest.now out.old.items out.new.items) }
     ensures utf8 { IfOk result (λ rest. IsUtf8 rest.now) }
 {
-    let Some((line, behind)) = cut_line(text, end) else {
-        return Ok(text);
-    };
-    if line.len() > LIMIT || !folded.is_own_key(form, line) {
-        return Ok(text);
+    let mut rest = text;
+    let mut most = FIRST;
+    'windows: loop {
+        let (window, _behind) = rest.split_at(rest.floor_char_boundary(most));
+        let left = push_own_window(folded, form, end, window, out)?;
+        let behind = &rest[window.len() - left.len()..];
+        if behind.len() >= rest.len() {
+            return Ok(behind);
+        }
+        rest = behind;
+        most = WINDOW.min(2 * most);
     }
-    push_unfolded(out, line.as_bytes(), end)?;
-    Ok(behind)
 }
 
 /// Appends the answers to some lines at the front of a text by either way, and answers what is left of it.
@@ -146,15 +185,14 @@ fn push_some<'a, T: NormTable + Drop>(
     text: &'a str,
     out: &mut Vec<u8>,
 ) -> Result<&'a str, Memory>
-    ensures pushed { IfOk result (λ rest. ArePushed (IsAnswerBy (IsCaseless folded.now form) folded.now.version end) end
-        text.now rest.now out.old.items out.new.items) }
+    ensures pushed { IfOk result (λ rest. AreAnswered folded.now form end text.now rest.now out.old.items out.new.items) }
     ensures utf8 { IfOk result (λ rest. IsUtf8 rest.now) }
 {
-    let rest = push_made(folded, form, end, text, out)?;
+    let rest = push_own(folded, form, end, text, out)?;
     if rest.len() < text.len() {
         return Ok(rest);
     }
-    Ok(push_own(folded, form, end, rest, out)?)
+    Ok(push_made(folded, form, end, rest, out)?)
 }
 
 /// Answers the lines at the front of a text whose keys are made code point by code point, or are the lines, and answers what is
@@ -166,8 +204,7 @@ pub(crate) fn push_simple<'a, T: NormTable + Drop>(
     text: &'a str,
     out: &mut Vec<u8>,
 ) -> Result<&'a str, Memory>
-    ensures { IfOk result (λ rest. ArePushed (IsAnswerBy (IsCaseless folded.now form) folded.now.version end) end
-        text.now rest.now out.old.items out.new.items) }
+    ensures { IfOk result (λ rest. AreAnswered folded.now form end text.now rest.now out.old.items out.new.items) }
 {
     let mut rest = text;
     'lines: loop {

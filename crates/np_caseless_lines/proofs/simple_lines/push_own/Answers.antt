@@ -1,30 +1,39 @@
-use Rattle.std.proofs.Common.{◌++◌, ◌∷◌, [], ap, ◌∙◌}
+use Rattle.std.proofs.Common.{arith}
 use Rattle.np_caseless.specs.Caseless.{IsCaseless}
 use Rattle.np_lines.specs.Answers.{IsAnswerBy}
-use Rattle.np_lines.specs.Lines.{byte_of}
-use Rattle.np_lines.proofs.PushedLemmas.{pushed-key, pushed-none}
-use Rattle.np_caseless_lines.proofs.SimpleLineLemmas.{simple_answer}
+use Rattle.np_lines.proofs.PushedLemmas.{pushed-none}
+use Rattle.np_caseless_lines.proofs.OwnLineLemmas.{left_boundary, more_answered}
 use Rattle.np_caseless_lines.proofs.simple_lines.push_own.Goals as goal
 
-pub returns-in_default-clause-pushed : goal.returns-in_default-clause-pushed
-returns-in_default-clause-pushed g c =
+pub windows-init : goal.windows-init
+windows-init g c =
     let v = c.args.folded.now in
-    pushed-none (IsAnswerBy (IsCaseless v c.args.form) v.version c.args.end) c.args.end c.args.text.now c.args.out.now.items
+    let Is = IsAnswerBy (IsCaseless v c.args.form) v.version c.args.end in
+    (c.utf8.text, omega arith, pushed-none Is c.args.end c.args.text.now c.args.out.now.items)
 
-pub returns-then-line-gt-LIMIT-clause-pushed : goal.returns-then-line-gt-LIMIT-clause-pushed
-returns-then-line-gt-LIMIT-clause-pushed g c =
-    let v = c.args.folded.now in
-    pushed-none (IsAnswerBy (IsCaseless v c.args.form) v.version c.args.end) c.args.end c.args.text.now c.args.out.now.items
+pub range_from-behind-requires : goal.range_from-behind-requires
+range_from-behind-requires g c = λ _.
+    let cut = c.split_at in
+    let n = c.floor_char_boundary in
+    left_boundary c.args.folded.now c.args.form c.args.end c.windows.rest.now cut.result.0.now cut.result.1.now c.in_ok-left.left.now
+    c.windows.out.items c.push_own_window.new.out.items n.result cut.ensures.front cut.ensures.back c.in_ok-left.ensures.pushed c.windows.invariant.0
+    n.ensures.boundary c.in_ok-left.ensures.utf8
 
-pub returns-clause-pushed : goal.returns-clause-pushed
-returns-clause-pushed g c =
-    let v = c.args.folded.now in
-    let end = c.args.end in
-    let Is = IsAnswerBy (IsCaseless v c.args.form) v.version end in
-    let text = c.args.text.now in
-    let out = c.args.out.now.items in
-    let parts = c.in-Some.ensures in
-    let line = c.in-Some.line.now in
-    pushed-key Is end text text line c.in-Some.behind.now line out out c.push_unfolded.new.out.items (pushed-none Is end text out) parts.cut parts.line
-    (simple_answer v c.args.form end line line parts.utf8.0 c.if-line-gt-LIMIT.false parts.line (c.is_own_key.ensures c.if-not-is_own_key.false))
-    (c.in_ok-push_unfolded.ensures ∙ ap (λ l. out ++ (61 ∷ l ++ byte_of end ∷ [])) c.as_bytes.ensures.value)
+pub returns-then-behind-rest-clause-pushed : goal.returns-then-behind-rest-clause-pushed
+returns-then-behind-rest-clause-pushed g c =
+    let cut = c.split_at in
+    more_answered c.args.folded.now c.args.form c.args.end c.windows.rest.now cut.result.0.now cut.result.1.now c.in_ok-left.left.now
+    c.windows.out.items c.push_own_window.new.out.items c.floor_char_boundary.result cut.ensures.front cut.ensures.back c.in_ok-left.ensures.pushed
+    c.args.text.now c.range_from-behind.result.now c.args.out.now.items c.range_from-behind.ensures.value c.windows.invariant.2
+
+pub windows-preserved : goal.windows-preserved
+windows-preserved g c =
+    let cut = c.split_at in
+    let n = c.floor_char_boundary.result in
+    let behind = c.range_from-behind in (
+      behind.utf8,
+      omega (arith, c.min-most.ensures),
+      more_answered c.args.folded.now c.args.form c.args.end c.windows.rest.now cut.result.0.now cut.result.1.now c.in_ok-left.left.now
+          c.windows.out.items c.push_own_window.new.out.items n cut.ensures.front cut.ensures.back c.in_ok-left.ensures.pushed
+          c.args.text.now behind.result.now c.args.out.now.items behind.ensures.value c.windows.invariant.2,
+    )

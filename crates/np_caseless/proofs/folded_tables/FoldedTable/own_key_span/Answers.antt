@@ -18,8 +18,8 @@ returns-clause-boundary g c =
     let found = c.behind_marked-behind.ensures in
     let text = c.args.text.now in
     let behind = c.behind_marked-behind.result.now in
-    front_boundary text behind c.split_at.result.0.now found.0 (length text - length behind) c.quick_check_span.result found.1 refl c.split_at.ensures.front c.utf8.text
-    c.quick_check_span.ensures.boundary
+    front_boundary text behind c.split_at.result.0.now found.0 (length text - length behind) c.quick_check_span.result found.1 refl
+    c.split_at.ensures.front c.utf8.text c.quick_check_span.ensures.boundary
 
 pub returns-clause-own : goal.returns-clause-own
 returns-clause-own g c =
