@@ -29,6 +29,7 @@ sys.path[:0] = [str(Path(__file__).resolve().parent.parent), str(Path(__file__).
 from caseless import caseless
 from caseless_rows import FOLDER, split, string_of
 from cases import DEVICE, WRONG_WORDS, text
+from drawn_lines import drawn_lines
 from harness import FORMS, ROOT, Tally, resident, run, shown
 from refusals import MEMORY as WANT, WAYS, Refusals, built_shim, each, is_last_call
 from release import newest
@@ -452,11 +453,23 @@ def check_published_folding(tally, program, files, strings):
     known = [string for string in strings if not any(unicodedata.category(code) == "Cn" for code in string)]
     three = [str(files[name]) for name in (DATA, EXCLUSIONS, FOLDING)]
     given = "".join(f"{string}\0" for string in known).encode()
+    check_drawn(tally, program, three)
     for form in FORMS:
         status, out, err = run(program, asks_caselessly("--null", form=form, files=three), given)
         wanted = [b"=" + caseless(form, string).encode() for string in known]
         wrong = [pair for pair in zip(known, out.split(b"\0"), wanted) if pair[1] != pair[2]]
         tally.check(f"caseless keys of {len(known)} published strings, {form}", (status, out.count(b"\0"), err, wrong) == (0, len(known), b"", []), shown(wrong[:1]))
+
+
+def check_drawn(tally, program, three):
+    """Lines that are answered by one way and by another, in stretches and in turns, against Python's folding between its forms."""
+    lines = list(drawn_lines())
+    given = "".join(f"{line}\n" for line in lines).encode()
+    for form in FORMS:
+        status, out, err = run(program, asks_caselessly(form=form, files=three), given)
+        answers, wanted = out.split(b"\n"), [b"=" + caseless(form, line).encode() for line in lines]
+        wrong = [pair for pair in zip(lines, answers, wanted) if pair[1] != pair[2]]
+        tally.check(f"caseless keys of {len(lines)} drawn lines, {form}", (status, len(answers), err, wrong) == (0, len(lines) + 1, b"", []), shown(wrong[:1]))
 
 
 def check_published(tally, program, keys, folder):
