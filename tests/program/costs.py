@@ -31,12 +31,15 @@ LENGTH = 4 << 20
 ASCII = "the quick brown fox jumps over a lazy dog "
 LATIN = "Zo\u00eb na\u00efvet\u00e9 \u00e0 c\u00f4t\u00e9 "
 CAPITALS = "\u00c0\u00c9\u00cb\u00cf\u00d4" + "".join(map(chr, range(0x410, 0x430)))
-# Lines by what they are of, for caseless keys, and the millions of instructions that are kept. Of the last nothing folds.
+# Letters of four bytes.
+EXTENSION = "".join(map(chr, range(0x20000, 0x20008)))
+# Lines by what they are of, for caseless keys, and the millions of instructions that are kept. Of the last two nothing folds.
 CASELESS = {
     "ASCII": (f"{ASCII.title()}\n", 43.4),
     "Latin": ("Zo\u00eb Na\u00efvet\u00e9\n\u00c0 C\u00f4t\u00e9\n", 113.7),
     "Cyrillic": ("\u041d\u043e\u0432\u044b\u0439 \u0413\u043e\u0440\u043e\u0434\n\u0414\u043e\u043c \u041a\u043d\u0438\u0433\u0438\n", 109.5),
     "ideographs": ("\u6771\u4eac\u90fd \u65e5\u672c\u6a4b\n\u6587\u5b57 \u4e2d\u592e\n", 168.9),
+    "ideographs of four bytes": (f"{EXTENSION[:3]} {EXTENSION[3:]}\n{EXTENSION[5:]} {EXTENSION[:5]}\n", 0.0),
 }
 
 # How many instructions a key takes through the library for C, by the text's name in doors/costs.c.
@@ -59,8 +62,8 @@ def version():
 
 
 def folded_version():
-    """The same with capitals and Cyrillic, and a folding file by which each capital folds to its small letter."""
-    letters = [record(code_of(letter), mapping=unicodedata.decomposition(letter)) for letter in CAPITALS + CAPITALS.lower()]
+    """The same with capitals, Cyrillic and letters of four bytes, and a folding file by which each capital folds to its small letter."""
+    letters = [record(code_of(letter), mapping=unicodedata.decomposition(letter)) for letter in CAPITALS + CAPITALS.lower() + EXTENSION]
     folds = [f"{code_of(letter)}; C; {code_of(letter.lower())}; # X\n" for letter in string.ascii_uppercase + CAPITALS]
     return with_records(version(), record("0306", "Mn", 230), *letters), "".join(folds)
 

@@ -5,7 +5,7 @@ use Rattle.np_code_points.specs.declared.forms.Form.{Form}
 use Rattle.np_forms.proofs.Words.{IsUtf8-past_char}
 use Rattle.np_caseless.specs.Folded.{FoldedVersion}
 use Rattle.np_caseless.specs.inside.SimpleTexts.{GoesOn, IsCodeWritten, IsMadeOfFront}
-use Rattle.np_caseless.specs.declared.simple_texts.Character.{Character}
+use Rattle.np_caseless.specs.declared.characters.Character.{Character}
 use Rattle.np_caseless.specs.declared.simple_texts.KnownImages.{KnownImages}
 use Rattle.np_caseless.proofs.CharacterLemmas.{free_code_next, free_next}
 use Rattle.np_caseless.proofs.SimpleLemmas.{written_next}

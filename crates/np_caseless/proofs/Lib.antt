@@ -19,6 +19,7 @@ pub mod LengthLemmas
 pub mod LentLemmas
 pub mod ListedLemmas
 pub mod MappedLemmas
+pub mod MarkLemmas
 pub mod OwnFormLemmas
 pub mod OwnKeyLemmas
 pub mod QuietLemmas

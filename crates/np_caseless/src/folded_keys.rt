@@ -11,8 +11,9 @@ ghost use Rattle.np_caseless.specs.SimpleKeys.{IsEachPartOwnKey, IsSimpleKey};
 
 use crate::ascii::folded_text;
 use crate::folded_tables::FoldedTable;
-use crate::image_texts::{are_marked, behind_marked, image_text};
+use crate::image_texts::image_text;
 use crate::keys::caseless_key;
+use crate::marks::{are_marked, behind_marked};
 use crate::own_forms::is_own_form;
 use crate::simple_texts::write_front;
 use np_code_points::{Form, Memory};

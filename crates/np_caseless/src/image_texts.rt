@@ -7,55 +7,9 @@ ghost use Rattle.np_caseless.specs.inside.Images.{AreImages};
 ghost use Rattle.np_caseless.specs.inside.ImageTables.{AreAllImages, AreKnown, IsMarked};
 
 use crate::image_tables::{Image, Images};
+use crate::marks::behind_marked;
 use np_code_points::Memory;
 use std::alloc::Global;
-
-/// Whether a code point is marked as its own image.
-#[inline(always)]
-pub(crate) fn is_marked_code(own: &[u8], code: usize) -> bool
-    ensures { IsTrue result → IsMarked own.now code }
-{
-    match own.get(code) {
-        Some(mark) => *mark == 1,
-        None => true,
-    }
-}
-
-/// Whether a character is.
-pub(crate) fn is_marked(own: &[u8], code: char) -> bool
-    ensures { IsTrue result → IsMarked own.now code }
-{
-    is_marked_code(own, u32::from(code) as usize)
-}
-
-/// Whether each code point of a text is.
-pub(crate) fn are_marked(own: &[u8], text: &str) -> bool
-    ensures { IsTrue result → All (IsMarked own.now) (code_points text.now) }
-{
-    for code in text.chars() {
-        if !is_marked(own, code) {
-            return false;
-        }
-    }
-    true
-}
-
-/// What follows the code points at the front of a text that are marked.
-pub(crate) fn behind_marked<'t>(own: &[u8], text: &'t str) -> &'t str
-    ensures { (front : List ℕ) × IsRead text.now result.now front × All (IsMarked own.now) front }
-{
-    let mut rest = text;
-    'scan: loop {
-        let mut iter = rest.chars();
-        let Some(code) = iter.next() else {
-            return rest;
-        };
-        if !is_marked(own, code) {
-            return rest;
-        }
-        rest = iter.as_str();
-    }
-}
 
 /// The image of a code point in a list, which is in the order of its code points, where it is there.
 fn found(list: &[Image], code: char) -> Option<&str>

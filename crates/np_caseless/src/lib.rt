@@ -5,6 +5,7 @@
 mod ascii;
 mod audits;
 mod breaks;
+mod characters;
 mod faults;
 mod first_faults;
 mod folded_again;
@@ -21,6 +22,7 @@ pub mod laws;
 mod leasts;
 mod lent_parts;
 mod mapped_rows;
+mod marks;
 mod not_folded;
 mod own_forms;
 mod own_images;

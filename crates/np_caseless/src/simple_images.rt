@@ -10,7 +10,8 @@ ghost use Rattle.np_caseless.specs.SimpleKeys.{AddsNoControl};
 ghost use Rattle.np_caseless.specs.inside.SimpleImages.{AreOfForm, AreOfForms, HaveNoControls, IsApart, IsSimple, MayBecome, bytes_of};
 
 use crate::image_tables::Images;
-use crate::image_texts::{image_of, is_marked};
+use crate::image_texts::image_of;
+use crate::marks::is_marked;
 use crate::own_forms::is_own_form;
 use np_code_points::{Form, Memory};
 use np_versions::NormTable;

@@ -9,7 +9,8 @@ ghost use Rattle.np_caseless.specs.inside.ImageTables.{IsMarked};
 ghost use Rattle.np_caseless.specs.inside.SimpleImages.{AreSimple, HaveNoControls, IsCodeAt, bytes_of, listed};
 ghost use Rattle.np_caseless.specs.inside.SimpleTexts.{AreOwn, GoesOn, IsCodeWritten, IsMadeOfFront};
 
-use crate::image_texts::is_marked_code;
+use crate::characters::{Character, one_at, three_at, two_at};
+use crate::marks::is_marked_code;
 use crate::simple_images::{SimpleImage, packed};
 
 /// The images that are known.
@@ -21,16 +22,6 @@ pub(crate) struct KnownImages<'t> {
     pub(crate) own: &'t [u8],
 }
 
-/// A character in a text.
-#[derive(Clone, Copy)]
-pub(crate) struct Character {
-    /// Where it begins.
-    pub(crate) at: usize,
-    /// How many bytes it has.
-    pub(crate) count: usize,
-    pub(crate) code: usize,
-}
-
 /// What was made of the front of a text.
 #[derive(Clone, Copy)]
 pub(crate) struct MadeFront {
@@ -38,56 +29,6 @@ pub(crate) struct MadeFront {
     pub(crate) count: usize,
     /// Whether what was made is its own form, and assigned. Else that is to be asked.
     pub(crate) apart: bool,
-}
-
-/// The character of one byte at a place.
-#[inline(always)]
-fn one_at(bytes: &[u8], at: usize) -> Character
-    requires place { at < length bytes.now }
-    requires lead_byte { get_or bytes.now at 0 < 0x80 }
-    requires utf8 { IsUtf8 (drop at bytes.now) }
-    ensures here { IsCodeAt bytes.now at 1 result.code }
-    ensures within { result.code < 0x3000 }
-    ensures place { result.at ≡ at }
-    ensures count { result.count ≡ 1 }
-{
-    Character {
-        at,
-        count: 1,
-        code: usize::from(bytes[at]),
-    }
-}
-
-/// The character of two bytes at a place. What marks these as such is taken off all at once.
-#[inline(always)]
-fn two_at(bytes: &[u8], at: usize) -> Character
-    requires place { at < length bytes.now }
-    requires lead_byte { get_or bytes.now at 0 / 32 ≡ 6 }
-    requires utf8 { IsUtf8 (drop at bytes.now) }
-    ensures here { IsCodeAt bytes.now at 2 result.code }
-    ensures within { result.code < 0x3000 }
-    ensures place { result.at ≡ at }
-    ensures count { result.count ≡ 2 }
-{
-    let code = usize::from(bytes[at]) * 64 + usize::from(bytes[at + 1]) - 0x3080;
-    Character { at, count: 2, code }
-}
-
-/// The character of three bytes at a place.
-#[inline(always)]
-fn three_at(bytes: &[u8], at: usize) -> Character
-    requires place { at < length bytes.now }
-    requires lead_byte { get_or bytes.now at 0 / 16 ≡ 14 }
-    requires utf8 { IsUtf8 (drop at bytes.now) }
-    ensures here { IsCodeAt bytes.now at 3 result.code }
-    ensures place { result.at ≡ at }
-    ensures count { result.count ≡ 3 }
-{
-    let code = usize::from(bytes[at]) * 4096
-        + usize::from(bytes[at + 1]) * 64
-        + usize::from(bytes[at + 2])
-        - 0xE_2080;
-    Character { at, count: 3, code }
 }
 
 /// Writes the bytes of an image to where a character of as many stands.

@@ -1,6 +1,7 @@
 -- The images of all code points.
-use Rattle.std.specs.Prelude.{◌≡◌, ◌≢◌, ◌⊎◌, ℕ, Bool, true, false, List, [], ◌∷◌, chars, get_or, string_bytes}
+use Rattle.std.specs.Prelude.{◌≡◌, ◌≢◌, ◌⊎◌, ℕ, ◌≤◌, Bool, true, false, List, [], ◌∷◌, chars, drop, get_or, length, string_bytes}
 use Rattle.std.specs.List.{All}
+use Rattle.np_forms.specs.inside.Readings.{IsRead}
 use Rattle.np_versions.specs.Mappings.{is_final}
 use Rattle.np_caseless.specs.Folded.{FoldedVersion}
 use Rattle.np_caseless.specs.inside.FirstFaults.{IsOfArithmetic}
@@ -14,6 +15,13 @@ IsMarked own c = get_or own c 1 ≡ 1
 
 abbrev pub IsUnmarked : List ℕ → ℕ → Type 0
 IsUnmarked own c = get_or own c 1 ≢ 1
+
+-- the code points of a text up to a place are marked
+pub record IsMarkedUpTo (own text : List ℕ) (at : ℕ) : Type 0 where
+  pub within : at ≤ length text
+  pub read : List ℕ
+  pub reads : IsRead text (drop at text) read
+  pub marked : All (IsMarked own) read
 
 -- nothing is marked that wasn't
 abbrev pub IsLessMarked : List ℕ → List ℕ → Type 0

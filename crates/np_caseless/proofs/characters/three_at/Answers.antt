@@ -1,6 +1,6 @@
 use Rattle.std.proofs.Common.{arith}
 use Rattle.np_caseless.proofs.CharacterLemmas.{three_at, three_fit, three_long}
-use Rattle.np_caseless.proofs.simple_texts.three_at.Goals as goal
+use Rattle.np_caseless.proofs.characters.three_at.Goals as goal
 
 pub bounds-bytes-at-2 : goal.bounds-bytes-at-2
 bounds-bytes-at-2 c = omega (arith, three_long c.args.bytes.now c.args.at c.requires.utf8 c.requires.lead_byte)

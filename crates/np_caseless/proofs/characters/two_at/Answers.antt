@@ -1,5 +1,5 @@
 use Rattle.np_caseless.proofs.CharacterLemmas.{two_at, two_fit, two_long}
-use Rattle.np_caseless.proofs.simple_texts.two_at.Goals as goal
+use Rattle.np_caseless.proofs.characters.two_at.Goals as goal
 
 pub bounds-bytes-at-2 : goal.bounds-bytes-at-2
 bounds-bytes-at-2 c = two_long c.args.bytes.now c.args.at c.requires.utf8 c.requires.lead_byte
