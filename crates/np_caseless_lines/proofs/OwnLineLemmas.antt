@@ -20,7 +20,7 @@ use Rattle.np_caseless_lines.proofs.SimpleLineLemmas.{front_boundary, pushed_bot
 module _ (v : FoldedVersion) (form : Form) (end : LineEnd) where
   -- one more line, which is its own key
   pub own_line : (own rest line behind old mid new : List ℕ) → IsUtf8 own → IsUtf8 rest → IsUtf8 line
-      → rest ≡ line ++ byte_of end ∷ behind → HasNo (byte_of end) line → length own ≤ 1000
+      → rest ≡ line ++ byte_of end ∷ behind → HasNo (byte_of end) line → length own ≤ 16000
       → new ≡ mid ++ (told_key line ++ byte_of end ∷ []) → IsEachPartOwnKey v form (chars own)
       → AreAnswered v form end own rest old mid → AreAnswered v form end own behind old new
   own_line own rest line behind old mid new utf8 of_rest of_line is free short out each p =

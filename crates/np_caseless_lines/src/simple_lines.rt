@@ -17,6 +17,9 @@ const WINDOW: usize = 1000;
 /// How many bytes of a text are looked at for lines that are their own keys before such a line was found, at most.
 const FIRST: usize = 125;
 
+/// How many are looked at in the end, at most. The quick check of a short text takes more for each code point.
+const LAST: usize = 16000;
+
 /// What was answered of a text.
 #[derive(Clone, Copy)]
 struct WrittenLines<'a> {
@@ -119,7 +122,7 @@ fn push_made<'a, T: NormTable + Drop>(
 
 /// Appends the answers to the lines that end in a text of which each part is its own caseless key, and answers what follows them.
 fn push_each<'a>(end: LineEnd, own: &'a str, out: &mut Vec<u8>) -> Result<&'a str, Memory>
-    requires { length own.now ≤ 1000 }
+    requires { length own.now ≤ 16000 }
     ensures pushed { IfOk result (λ rest. (v : FoldedVersion) (form : Form) → IsEachPartOwnKey v form (chars own.now) →
         AreAnswered v form end own.now rest.now out.old.items out.new.items) }
     ensures utf8 { IfOk result (λ rest. IsUtf8 rest.now) }
@@ -142,7 +145,7 @@ fn push_own_window<'a, T: NormTable + Drop>(
     window: &'a str,
     out: &mut Vec<u8>,
 ) -> Result<&'a str, Memory>
-    requires { length window.now ≤ 1000 }
+    requires { length window.now ≤ 16000 }
     ensures pushed { IfOk result (λ rest. AreAnswered folded.now form end window.now rest.now out.old.items out.new.items) }
     ensures utf8 { IfOk result (λ rest. IsUtf8 rest.now) }
 {
@@ -173,7 +176,7 @@ fn push_own<'a, T: NormTable + Drop>(
             return Ok(behind);
         }
         rest = behind;
-        most = WINDOW.min(2 * most);
+        most = LAST.min(2 * most);
     }
 }
 
