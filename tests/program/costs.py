@@ -36,10 +36,10 @@ EXTENSION = "".join(map(chr, range(0x20000, 0x20008)))
 # Lines by what they are of, for caseless keys, and the millions of instructions that are kept. Of the last two nothing folds.
 CASELESS = {
     "ASCII": (f"{ASCII.title()}\n", 43.4),
-    "Latin": ("Zo\u00eb Na\u00efvet\u00e9\n\u00c0 C\u00f4t\u00e9\n", 113.7),
-    "Cyrillic": ("\u041d\u043e\u0432\u044b\u0439 \u0413\u043e\u0440\u043e\u0434\n\u0414\u043e\u043c \u041a\u043d\u0438\u0433\u0438\n", 109.5),
-    "ideographs": ("\u6771\u4eac\u90fd \u65e5\u672c\u6a4b\n\u6587\u5b57 \u4e2d\u592e\n", 168.9),
-    "ideographs of four bytes": (f"{EXTENSION[:3]} {EXTENSION[3:]}\n{EXTENSION[5:]} {EXTENSION[:5]}\n", 0.0),
+    "Latin": ("Zo\u00eb Na\u00efvet\u00e9\n\u00c0 C\u00f4t\u00e9\n", 96.6),
+    "Cyrillic": ("\u041d\u043e\u0432\u044b\u0439 \u0413\u043e\u0440\u043e\u0434\n\u0414\u043e\u043c \u041a\u043d\u0438\u0433\u0438\n", 87.2),
+    "ideographs": ("\u6771\u4eac\u90fd \u65e5\u672c\u6a4b\n\u6587\u5b57 \u4e2d\u592e\n", 104.9),
+    "ideographs of four bytes": (f"{EXTENSION[:3]} {EXTENSION[3:]}\n{EXTENSION[5:]} {EXTENSION[:5]}\n", 160.6),
 }
 
 # How many instructions a key takes through the library for C, by the text's name in doors/costs.c.
