@@ -1,5 +1,5 @@
 -- Caseless keys that are told with what lines ask of them.
-use Rattle.std.specs.Prelude.{◌≡◌, ℕ, ◌<◌, List, ◌++◌, chars, IsUtf8}
+use Rattle.std.specs.Prelude.{◌≡◌, ℕ, ◌<◌, List, ◌++◌, chars, drop, length, take, IsUtf8}
 use Rattle.np_code_points.specs.Lines.{HasNo}
 use Rattle.np_code_points.specs.declared.forms.Form.{Form}
 use Rattle.np_forms.specs.Assigned.{IsAssigned}
@@ -20,3 +20,9 @@ pub record IsSimpleKey (v : FoldedVersion) (form : Form) (text key : List ℕ) :
 -- wherever a part begins and ends, its code points are assigned, and it is its own caseless list
 abbrev pub IsEachPartOwnKey : FoldedVersion → Form → List ℕ → Type 0
 IsEachPartOwnKey v form cs = (before part after : List ℕ) → cs ≡ before ++ (part ++ after) → IsAssigned v.version part × IsCaseless v form part part
+
+-- wherever a part of a text begins and ends, what stands at its place in other bytes is its caseless key, and it is assigned
+abbrev pub IsEachPartKey : FoldedVersion → Form → List ℕ → List ℕ → Type 0
+IsEachPartKey v form text keys =
+    (before part after : List ℕ) → text ≡ before ++ (part ++ after) → IsUtf8 before → IsUtf8 part
+    → IsSimpleKey v form part (take (length part) (drop (length before) keys))

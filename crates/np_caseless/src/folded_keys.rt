@@ -7,7 +7,7 @@ ghost use Rattle.np_forms.specs.Faults.{IsNpssFault};
 ghost use Rattle.np_forms.specs.Forms.{IsNormalForm};
 ghost use Rattle.np_code_points.specs.Lines.{HasNo};
 ghost use Rattle.np_caseless.specs.Caseless.{IsCaseless};
-ghost use Rattle.np_caseless.specs.SimpleKeys.{IsEachPartOwnKey, IsSimpleKey};
+ghost use Rattle.np_caseless.specs.SimpleKeys.{IsEachPartKey, IsEachPartOwnKey, IsSimpleKey};
 
 use crate::ascii::folded_text;
 use crate::folded_tables::FoldedTable;
@@ -44,6 +44,19 @@ impl<T: NormTable + Drop> FoldedTable<T> {
         let behind = behind_marked(self.images(wanted.compat()).own.as_slice(), text);
         let (front, _behind) = text.split_at(text.len() - behind.len());
         quick_check_span(self.table(), wanted, front)
+    }
+
+    /// Writes the caseless keys of the code points at the front of a text, where they are told code point by code point and each
+    /// has as many bytes as its code point, to the front of the room. Answers how many bytes that front has: each part of it, from
+    /// one code point to another, has as its caseless key what was written at its place. The rest of the room may hold anything.
+    /// Takes no memory.
+    pub fn write_keys(&self, wanted: Form, text: &str, room: &mut [u8]) -> usize
+        requires room { length text.now ≡ length room.now }
+        ensures length { length room.new ≡ length room.old }
+        ensures boundary { IsCharBoundary text.now result }
+        ensures keys { IsEachPartKey self.now wanted (take result text.now) room.new }
+    {
+        0
     }
 
     /// Writes the caseless key of what stands before the first `stop` in a text, or of all where there is none, to the front of
