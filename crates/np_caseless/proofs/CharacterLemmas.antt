@@ -1,15 +1,14 @@
 -- Characters where they stand in a text, and their bytes.
-use Rattle.std.proofs.Common.{◌≡◌, ℕ, ◌+◌, ◌-◌, ◌*◌, ◌/◌, ◌%◌, ◌<◌, ◌≤◌, ◌≢◌, List, [], ◌∷◌, ◌++◌, append_assoc, drop, get_or, length, length-append, slice_set, take, arith, encode_utf8, IsUtf8, refl, sym, ap, ap₂, subst, ◌∙◌, inl, inr}
-use Rattle.std.proofs.lemmas.List.{take_at, drop-drop, drop_more, get_or-drop, length-drop, length-set, length-take, take_more_set, take-append-drop}
-use Rattle.std.proofs.lemmas.List.Elements.{All-append, All-cons, All-nil}
-use Rattle.np_code_points.specs.Lines.{HasNo}
-use Rattle.np_code_points.proofs.LineGrammar.{not_byte}
+use Rattle.std.proofs.Common.{◌≡◌, ℕ, ◌+◌, ◌-◌, ◌*◌, ◌/◌, ◌%◌, ◌<◌, ◌≤◌, List, [], ◌∷◌, ◌++◌, append_assoc, drop, get_or, length, length-append, map, slice_set, take, arith, encode_utf8, IsUtf8, refl, sym, ap, ap₂, subst, ◌∙◌, inl, inr}
+use Rattle.std.proofs.lemmas.List.{drop-drop, drop_more, drop-set-lt, get_or-drop, length-drop, length-set, take_more_set}
+use Rattle.std.proofs.lemmas.Str.Ascii.{lowercase_is}
+use Rattle.std.specs.Char.{to_ascii_lowercase}
 use Rattle.np_versions.proofs.Words.{cases_lt}
 use Rattle.np_versions.proofs.Utf8Lemmas.{BeginsWith, begins_with_three, begins_with_two, encode_four, encode_one, encode_three, encode_two}
 use Rattle.np_caseless.specs.inside.SimpleImages.{IsCodeAt}
 
 -- three bytes of one number
-pub unpacked : (x y z n : ℕ) → x < 256 → y < 256 → z < 256 → n ≡ x + 256 * y + 65536 * z → n % 256 ∷ n / 256 % 256 ∷ n / 65536 % 256 ∷ [] ≡ x ∷ y ∷ z ∷ []
+pub unpacked : (x y z n : ℕ) → x < 256 → y < 256 → z < 256 → n ≡ 0x1000000 + x + 256 * y + 65536 * z → n % 256 ∷ n / 256 % 256 ∷ n / 65536 % 256 ∷ [] ≡ x ∷ y ∷ z ∷ []
 unpacked x y z n first second third is =
     let one : n % 256 ≡ x = omega (arith, is, first, second, third) in
     let two : n / 256 % 256 ≡ y = omega (arith, is, first, second, third) in
@@ -91,6 +90,9 @@ module _ (bytes : List ℕ) (at count code : ℕ) (here : IsCodeAt bytes at coun
                   ]
             ]
       ]
+
+high_stays : (b : ℕ) → 128 ≤ b → to_ascii_lowercase b ≡ b
+high_stays b above = (lowercase_is b).2 (omega (arith, above))
 
 module _ (bytes : List ℕ) (at : ℕ) (utf8 : IsUtf8 (drop at bytes)) where
   abbrev byte : ℕ → ℕ
@@ -181,89 +183,100 @@ module _ (room : List ℕ) (at x y z : ℕ) where
       ∙ ap (λ l. l ++ z ∷ []) (put_two (omega (arith, fits)))
       ∙ append_assoc (take at room) (x ∷ y ∷ []) (z ∷ [])
 
--- ---- bytes that stop
+  pub behind_one : drop (at + 1) (slice_set room at x) ≡ drop (at + 1) room
+  behind_one = drop-set-lt (at + 1) room at x (omega arith)
 
--- a byte beyond ASCII, and then others
-free_more : (stop b : ℕ) (bs : List ℕ) → stop < 128 → 128 ≤ b → HasNo stop bs → HasNo stop (b ∷ bs)
-free_more stop b bs ascii high free = All-cons (not_byte stop) b bs (λ e. absurd (omega (arith, e, ascii, high))) free
+  pub behind_two : drop (at + 2) (slice_set (slice_set room at x) (at + 1) y) ≡ drop (at + 2) room
+  behind_two = drop-set-lt (at + 2) (slice_set room at x) (at + 1) y (omega arith) ∙ drop-set-lt (at + 2) room at x (omega arith)
 
--- no character but that of ASCII itself has a byte of ASCII
-free_code : (stop code : ℕ) → stop < 128 → code ≢ stop → HasNo stop (encode_utf8 code)
-free_code stop code ascii other =
-    let more = λ (b : ℕ) (bs : List ℕ) (high : 128 ≤ b) (free : HasNo stop bs). free_more stop b bs ascii high free in
-    let none = All-nil (not_byte stop) in
-    let last = code % 64 in
-    let middle = code / 64 % 64 in
-    let end = more (128 + last) [] (omega arith) none in
-    let two = more (128 + middle) ((128 + last) ∷ []) (omega arith) end in
-    elim (cases_lt code 0x80) [
-      | inl one ↦ subst (HasNo stop) (sym (encode_one code one)) (All-cons (not_byte stop) code [] other none)
+  pub behind_three : drop (at + 3) (slice_set (slice_set (slice_set room at x) (at + 1) y) (at + 2) z) ≡ drop (at + 3) room
+  behind_three =
+      let two = slice_set (slice_set room at x) (at + 1) y in
+      drop-set-lt (at + 3) two (at + 2) z (omega arith)
+      ∙ drop-set-lt (at + 3) (slice_set room at x) (at + 1) y (omega arith)
+      ∙ drop-set-lt (at + 3) room at x (omega arith)
+
+-- ---- how many bytes a character has
+
+by_bytes : (c : ℕ) → (P : Type 0)
+    → (c < 0x80 → encode_utf8 c ≡ c ∷ [] → P)
+    → ((x y : ℕ) → 128 ≤ x → 128 ≤ y → 0x80 ≤ c → encode_utf8 c ≡ x ∷ y ∷ [] → P)
+    → ((x y z : ℕ) → 128 ≤ x → 128 ≤ y → 128 ≤ z → 0x80 ≤ c → encode_utf8 c ≡ x ∷ y ∷ z ∷ [] → P)
+    → ((x y z w : ℕ) → 128 ≤ x → 128 ≤ y → 128 ≤ z → 128 ≤ w → 0x10000 ≤ c → encode_utf8 c ≡ x ∷ y ∷ z ∷ w ∷ [] → P)
+    → P
+by_bytes c P one two three four =
+    elim (cases_lt c 0x80) [
+      | inl single ↦ one single (encode_one c single)
       | inr some ↦
-          elim (cases_lt code 0x800) [
-            | inl few ↦ subst (HasNo stop) (sym (encode_two code some few)) (more (192 + code / 64) ((128 + last) ∷ []) (omega arith) end)
+          elim (cases_lt c 0x800) [
+            | inl few ↦ two (192 + c / 64) (128 + c % 64) (omega arith) (omega arith) some (encode_two c some few)
             | inr many ↦
-                elim (cases_lt code 0x10000) [
-                  | inl three ↦
-                      subst (HasNo stop) (sym (encode_three code many three))
-                      (more (224 + code / 4096) ((128 + middle) ∷ (128 + last) ∷ []) (omega arith) two)
-                  | inr four ↦
-                      subst (HasNo stop) (sym (encode_four code four))
-                      (more (240 + code / 262144) ((128 + code / 4096 % 64) ∷ (128 + middle) ∷ (128 + last) ∷ []) (omega arith)
-                      (more (128 + code / 4096 % 64) ((128 + middle) ∷ (128 + last) ∷ []) (omega arith) two))
+                elim (cases_lt c 0x10000) [
+                  | inl fits ↦
+                      three (224 + c / 4096) (128 + c / 64 % 64) (128 + c % 64) (omega arith) (omega arith) (omega arith) some (encode_three c many fits)
+                  | inr most ↦
+                      four (240 + c / 262144) (128 + c / 4096 % 64) (128 + c / 64 % 64) (128 + c % 64) (omega arith) (omega arith) (omega arith) (omega arith)
+                      most (encode_four c most)
                 ]
           ]
     ]
 
--- what was read goes on by a character
-pub front_grows : (text : List ℕ) (at count code : ℕ) → IsCodeAt text at count code → take (at + count) text ≡ take at text ++ encode_utf8 code
-front_grows text at count code here =
-    let rest = drop (at + count) text in
-    let whole : text ≡ (take at text ++ encode_utf8 code) ++ rest =
-    sym (take-append-drop at text) ∙ ap (λ l. take at text ++ l) here.begins ∙ sym (append_assoc (take at text) (encode_utf8 code) rest) in
-    let size : length (take at text ++ encode_utf8 code) ≡ at + count =
-    omega (arith, here.size, here.long, length-take at text, length-append (take at text) (encode_utf8 code)) in
-    ap (take (at + count)) whole ∙ take_at (take at text ++ encode_utf8 code) rest (at + count) size
+-- the bytes of one beyond ASCII are beyond ASCII
+pub lower_encoded : (c : ℕ) → 128 ≤ c → map to_ascii_lowercase (encode_utf8 c) ≡ encode_utf8 c
+lower_encoded c high =
+    let same : (b : ℕ) → 128 ≤ b → to_ascii_lowercase b ≡ b = λ b above. high_stays b above in
+    by_bytes c (map to_ascii_lowercase (encode_utf8 c) ≡ encode_utf8 c)
+    (λ low e. absurd (omega (arith, low, high)))
+    (λ x y a b _ e. ap (map to_ascii_lowercase) e ∙ ap₂ (λ p q. p ∷ q ∷ []) (same x a) (same y b) ∙ sym e)
+    (λ x y z a b d _ e.
+        ap (map to_ascii_lowercase) e ∙ ap₂ (λ p l. p ∷ l) (same x a) (ap₂ (λ p q. p ∷ q ∷ []) (same y b) (same z d)) ∙ sym e)
+    (λ x y z w a b d f _ e.
+        ap (map to_ascii_lowercase) e
+        ∙ ap₂ (λ p l. p ∷ l) (same x a) (ap₂ (λ p l. p ∷ l) (same y b) (ap₂ (λ p q. p ∷ q ∷ []) (same z d) (same w f)))
+        ∙ sym e)
 
-pub free_code_next : (b : ℕ) (text : List ℕ) (at count code : ℕ) → b < 128 → code ≢ b → IsCodeAt text at count code → HasNo b (take at text)
-    → HasNo b (take (at + count) text)
-free_code_next b text at count code ascii other here free =
-    subst (HasNo b) (sym (front_grows text at count code here))
-    (All-append (not_byte b) (take at text) (encode_utf8 code) free (free_code b code ascii other))
+pub encoded_most : (c : ℕ) → length (encode_utf8 c) ≤ 4
+encoded_most c =
+    by_bytes c (length (encode_utf8 c) ≤ 4)
+    (λ _ e. omega (arith, ap length e))
+    (λ x y _ _ _ e. omega (arith, ap length e))
+    (λ x y z _ _ _ _ e. omega (arith, ap length e))
+    (λ x y z w _ _ _ _ _ e. omega (arith, ap length e))
 
-pub free_next : (stop : ℕ) (text : List ℕ) (at count code : ℕ) → stop < 128 → get_or text at 0 ≢ stop → IsCodeAt text at count code
-    → HasNo stop (take at text) → HasNo stop (take (at + count) text)
-free_next stop text at count code ascii other here free =
-    let first : code < 128 → code ≡ get_or text at 0 = λ low. sym (first_byte text at count code here (code ∷ []) (encode_one code low)) in
-    let apart : code ≢ stop = λ e. other (sym (first (omega (arith, e, ascii))) ∙ e) in
-    free_code_next stop text at count code ascii apart here free
+pub encoded_few : (c : ℕ) → c < 0x10000 → length (encode_utf8 c) ≤ 3
+encoded_few c low =
+    by_bytes c (length (encode_utf8 c) ≤ 3)
+    (λ _ e. omega (arith, ap length e))
+    (λ x y _ _ _ e. omega (arith, ap length e))
+    (λ x y z _ _ _ _ e. omega (arith, ap length e))
+    (λ x y z w _ _ _ _ most e. absurd (omega (arith, most, low)))
 
--- ---- the bytes of a character
+-- one that has several is beyond ASCII
+pub several_high : (c : ℕ) → 1 < length (encode_utf8 c) → 128 ≤ c
+several_high c more =
+    by_bytes c (128 ≤ c)
+    (λ _ e. absurd (omega (arith, more, ap length e)))
+    (λ x y _ _ high e. high)
+    (λ x y z _ _ _ high e. high)
+    (λ x y z w _ _ _ _ most e. omega (arith, most))
 
--- as the bytes of an image
-pub own_is : (bytes : List ℕ) (at count code second third : ℕ) → IsCodeAt bytes at count code → 0 < count → count ≤ 3
-    → (1 < count → second ≡ get_or bytes (at + 1) 0) → (2 < count → third ≡ get_or bytes (at + 2) 0) → take count (get_or bytes at 0 ∷ second ∷ third ∷ []) ≡ encode_utf8 code
-own_is bytes at count code second third here some few one two =
-    let front : take count (drop at bytes) ≡ encode_utf8 code =
-    ap (take count) here.begins ∙ take_at (encode_utf8 code) (drop (at + count) bytes) count here.size in
-    let first_is : drop at bytes ≡ get_or bytes at 0 ∷ drop (at + 1) bytes = drop_more bytes at 0 (omega (arith, some, here.long)) in
-    elim (cases_lt 1 count) [
-      | inr lone ↦
-          let n : count ≡ 1 = omega (arith, lone, some) in
-          ap (λ n. take n (get_or bytes at 0 ∷ second ∷ third ∷ [])) n ∙ sym (ap (λ n. take n (drop at bytes)) n ∙ ap (take 1) first_is) ∙ front
-      | inl more ↦
-          let next_is : drop (at + 1) bytes ≡ get_or bytes (at + 1) 0 ∷ drop (at + 1 + 1) bytes = drop_more bytes (at + 1) 0 (omega (arith, more, here.long)) in
-          let both : drop at bytes ≡ get_or bytes at 0 ∷ second ∷ drop (at + 2) bytes =
-          first_is ∙ ap (λ l. get_or bytes at 0 ∷ l) (next_is ∙ ap₂ (λ b n. b ∷ drop n bytes) (sym (one more)) (omega arith)) in
-          elim (cases_lt 2 count) [
-            | inr pair ↦
-                let n : count ≡ 2 = omega (arith, pair, more) in
-                ap (λ n. take n (get_or bytes at 0 ∷ second ∷ third ∷ [])) n ∙ sym (ap (λ n. take n (drop at bytes)) n ∙ ap (take 2) both) ∙ front
-            | inl whole ↦
-                let n : count ≡ 3 = omega (arith, whole, few) in
-                let last_is : drop (at + 2) bytes ≡ get_or bytes (at + 2) 0 ∷ drop (at + 2 + 1) bytes =
-                drop_more bytes (at + 2) 0 (omega (arith, whole, here.long)) in
-                let all : drop at bytes ≡ get_or bytes at 0 ∷ second ∷ third ∷ drop (at + 2 + 1) bytes =
-                both ∙ ap (λ l. get_or bytes at 0 ∷ second ∷ l) (last_is ∙ ap (λ b. b ∷ drop (at + 2 + 1) bytes) (sym (two whole))) in
-                ap (λ n. take n (get_or bytes at 0 ∷ second ∷ third ∷ [])) n ∙ sym (ap (λ n. take n (drop at bytes)) n ∙ ap (take 3) all) ∙ front
+-- one whose first byte is beyond ASCII has several
+pub several_bytes : (bytes : List ℕ) (at count code : ℕ) → IsCodeAt bytes at count code → 128 ≤ get_or bytes at 0 → 1 < count
+several_bytes bytes at count code here high =
+    let size : (l : List ℕ) → encode_utf8 code ≡ l → length l ≡ count = λ l e. sym (ap length e) ∙ here.size in
+    by_bytes code (1 < count)
+    (λ low e. absurd (omega (arith, high, low, first_byte bytes at count code here (code ∷ []) e)))
+    (λ x y _ _ _ e. omega (arith, size (x ∷ y ∷ []) e))
+    (λ x y z _ _ _ _ e. omega (arith, size (x ∷ y ∷ z ∷ []) e))
+    (λ x y z w _ _ _ _ _ e. omega (arith, size (x ∷ y ∷ z ∷ w ∷ []) e))
+
+pub encoded_two : (c : ℕ) → length (encode_utf8 c) ≤ 2 → c < 0x800
+encoded_two c few =
+    elim (cases_lt c 0x800) [
+      | inl low ↦ low
+      | inr many ↦
+          elim (cases_lt c 0x10000) [
+            | inl fits ↦ absurd (omega (arith, few, ap length (encode_three c many fits)))
+            | inr most ↦ absurd (omega (arith, few, ap length (encode_four c most)))
           ]
     ]

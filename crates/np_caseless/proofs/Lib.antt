@@ -10,20 +10,22 @@ pub mod ExampleLemmas
 pub mod FineLemmas
 pub mod FirstLemmas
 pub mod FoldLemmas
-pub mod FrontLemmas
 pub mod ImageLemmas
 pub mod ImageTableLemmas
 pub mod KeyLemmas
+pub mod LeadLemmas
 pub mod LeastLemmas
 pub mod LengthLemmas
 pub mod LentLemmas
 pub mod ListedLemmas
+pub mod MadeLemmas
 pub mod MappedLemmas
 pub mod MarkLemmas
 pub mod OwnFormLemmas
-pub mod OwnKeyLemmas
+pub mod PartLemmas
 pub mod QuietLemmas
 mod RunLemmas
 pub mod SimpleLemmas
 pub mod StabilityLemmas
+pub mod StandInLemmas
 pub mod UnfoldedLemmas

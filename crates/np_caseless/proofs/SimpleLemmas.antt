@@ -1,5 +1,5 @@
 -- What a text is made into by images that stand for its code points whatever is around them.
-use Rattle.std.proofs.Common.{◌≡◌, ℕ, ◌+◌, ◌<◌, ◌≤◌, ◌&&◌, ◌≢◌, Bool, true, false, List, [], ◌∷◌, ◌++◌, drop, length, length-append, replicate, slice_set, take, arith, chars, encode_utf8, encode_utf8_all, IsUtf8, refl, sym, ap, ap₂, subst, ◌∙◌, inl, inr}
+use Rattle.std.proofs.Common.{◌≡◌, ℕ, ◌<◌, ◌≤◌, ◌&&◌, Bool, true, false, List, [], ◌∷◌, ◌++◌, append_assoc, drop, length, length-append, replicate, slice_set, take, arith, chars, encode_utf8, encode_utf8_all, IsUtf8, refl, sym, ap, ap₂, subst, ◌∙◌, inl, inr}
 use Rattle.std.proofs.Math.Seq.{drop-append_seam, take-append_seam}
 use Rattle.std.proofs.lemmas.Bool.{and_from, and_parts}
 use Rattle.std.proofs.lemmas.Grind.{flat_map-append}
@@ -25,8 +25,8 @@ use Rattle.np_caseless.specs.Conditions.{IsSoundFolding}
 use Rattle.np_caseless.specs.Folded.{FoldedVersion}
 use Rattle.np_caseless.specs.inside.Images.{AreImages}
 use Rattle.np_caseless.specs.SimpleKeys.{AddsNoControl, IsSimpleKey}
-use Rattle.np_caseless.specs.inside.SimpleImages.{AreSimple, HaveNoControls, IsApart, StandsFor, IsSimple, bytes_of, listed}
-use Rattle.np_caseless.specs.inside.SimpleTexts.{AreOwn, IsCodeWritten, IsMadeOfFront}
+use Rattle.np_caseless.specs.inside.SimpleImages.{AreSimple, IsApart, StandsFor, IsSimple, bytes_of, listed}
+use Rattle.np_caseless.specs.inside.SimpleTexts.{AreOwn, AreStandIns, IsMadeOfFront, IsStandIn}
 use Rattle.np_caseless.specs.declared.simple_images.SimpleImage.{SimpleImage}
 use Rattle.np_caseless.specs.declared.simple_texts.KnownImages.{KnownImages}
 use Rattle.np_caseless.proofs.AssignedLemmas.{images_assigned}
@@ -43,10 +43,14 @@ back_free b xs ys h = subst (HasNo b) (drop-append_seam xs ys) (All-drop (not_by
 pub one_code : (code : ℕ) (own : List ℕ) → own ≡ encode_utf8 code → IsUtf8 own → code ∷ [] ≡ chars own
 one_code code own is utf8 = chars_from_encodes (code ∷ []) own utf8 (append-nil (encode_utf8 code) ∙ sym is)
 
+and_same : (a : Bool) → a && a ≡ a
+and_same true = refl
+and_same false = refl
+
 module _ (v : FoldedVersion) (sound : IsSoundFolding v) (form : Form) where
   -- nothing was read yet
-  pub simple_start : (text : List ℕ) → IsUtf8 text → IsMadeOfFront v form true text text []
-  simple_start text utf8 = record {
+  pub simple_start : (apart : Bool) (text : List ℕ) → IsUtf8 text → IsMadeOfFront v form apart text text []
+  simple_start apart text utf8 = record {
     read = [];
     ys = [];
     reads = IsRead-start text utf8;
@@ -89,28 +93,44 @@ module _ (v : FoldedVersion) (sound : IsSoundFolding v) (form : Form) where
             (ends b low (back_free b (encode_utf8_all m.read) (encode_utf8 code) both)));
       }
 
-  -- what stands for the code point at a place was written there
-  pub written_next : (known : KnownImages) (before more : Bool) (text : List ℕ) (at count code : ℕ) (room after : List ℕ) → AreSimple v form known.simple.now
-      → AreOwn v (is_compat form) known.own.now → IsCodeWritten known text at count code more room after
-      → IsMadeOfFront v form before text (drop at text) (take at room)
-      → IsMadeOfFront v form (before && more) text (drop (at + count) text) (take (at + count) after)
-  written_next known before more text at count code room after simple own w m =
-      let rest = drop at text in
-      let later = drop (at + count) text in
-      let next = simple_next before more text rest later (take at room) w.piece (take (at + count) after) code m w.here.begins in
-      elim w.is [
+  -- what stands in for a code point
+  stands_in : (known : KnownImages) (apart : Bool) (code : ℕ) (piece : List ℕ) → AreSimple v form known.simple.now → AreOwn v (is_compat form) known.own.now
+      → IsUtf8 (encode_utf8 code) → IsStandIn known apart code piece
+      → IsUtf8 piece × AreImages v (is_compat form) (code ∷ []) (chars piece) × (apart ≡ true → IsApart v form piece) × AddsNoControl (encode_utf8 code) piece
+  stands_in known apart code piece simple own utf8 s =
+      elim s.is [
         | inl image ↦
-            let bytes_are = ap (λ n. bytes_of n (listed known.simple.now code)) w.here.size ∙ sym image.bytes in
-            let stands = subst (λ l. StandsFor v form code l) bytes_are (simple code image.within image.known) in
-            next stands.utf8 stands.images (λ t. stands.apart) stands.ends w.written
+            let stands = subst (λ l. StandsFor v form code l) (sym image.bytes) (simple code image.within image.known) in
+            (stands.utf8, stands.images, λ t. stands.apart, stands.ends)
         | inr kept ↦
-            let behind = IsUtf8-past_char rest later code m.reads.utf8 w.here.begins in
-            let front = IsUtf8-front rest (encode_utf8 code) later w.here.begins m.reads.utf8 behind in
-            let scalar : IsUtf8 w.piece = subst IsUtf8 (sym kept.1.bytes) front in
-            let alone : chars w.piece ≡ code ∷ [] = sym (one_code code w.piece kept.1.bytes scalar) in
-            next scalar (subst (AreImages v (is_compat form) (code ∷ [])) (sym alone) (own code kept.1.marked))
-            (λ t. let bad : false ≡ true = sym kept.0 ∙ t in absurd (cc)) (λ b low none. subst (HasNo b) (sym kept.1.bytes) none) w.written
+            let is = kept.1.bytes in
+            let scalar : IsUtf8 piece = subst IsUtf8 (sym is) utf8 in
+            let alone : chars piece ≡ code ∷ [] = sym (one_code code piece is scalar) in (
+              scalar,
+              subst (AreImages v (is_compat form) (code ∷ [])) (sym alone) (own code kept.1.marked),
+              λ t. (let bad : false ≡ true = sym kept.0 ∙ t in absurd (cc)),
+              λ b low none. subst (HasNo b) (sym is) none,
+            )
       ]
+
+  -- what stands in for the code points that follow in a text goes on with what was made of it
+  pub simple_all : (known : KnownImages) (apart : Bool) (text rest later made more : List ℕ) (codes : List ℕ) → AreSimple v form known.simple.now
+      → AreOwn v (is_compat form) known.own.now → AreStandIns known apart codes more → IsUtf8 rest → rest ≡ encode_utf8_all codes ++ later
+      → IsMadeOfFront v form apart text rest made → IsMadeOfFront v form apart text later (made ++ more)
+  simple_all known apart text rest later made more [] simple own none utf8 is m =
+      subst (λ l. IsMadeOfFront v form apart text later l) (sym (ap (λ l. made ++ l) none ∙ append-nil made))
+      (subst (λ l. IsMadeOfFront v form apart text l made) is m)
+  simple_all known apart text rest later made more (code ∷ codes) simple own all utf8 is m =
+      let piece = all.0 in
+      let behind = encode_utf8_all codes ++ later in
+      let begins : rest ≡ encode_utf8 code ++ behind = is ∙ append_assoc (encode_utf8 code) (encode_utf8_all codes) later in
+      let of_behind : IsUtf8 behind = IsUtf8-past_char rest behind code utf8 begins in
+      let of_code = IsUtf8-front rest (encode_utf8 code) behind begins utf8 of_behind in
+      let stands = stands_in known apart code piece simple own of_code all.3 in
+      let next = simple_next apart apart text rest behind made piece (made ++ piece) code m begins stands.0 stands.1 stands.2 stands.3 refl in
+      let same = subst (λ (b : Bool). IsMadeOfFront v form b text behind (made ++ piece)) (and_same apart) next in
+      subst (λ l. IsMadeOfFront v form apart text later l) (append_assoc made piece all.1 ∙ ap (λ l. made ++ l) (sym all.2))
+      (simple_all known apart text behind later (made ++ piece) all.1 codes simple own all.4 of_behind refl same)
 
   -- the front of a text was made into its own form
   pub front_key : (apart : Bool) (text made : List ℕ) (n : ℕ) → IsUtf8 text → n ≤ length text → IsMadeOfFront v form apart text (drop n text) made
@@ -165,13 +185,3 @@ pub simple_none : (v : FoldedVersion) (form : Form) (n : ℕ) (none : SimpleImag
 simple_none v form n none zero c within known =
     let is = get_or-replicate n c none (record { bytes = 0 }) (omega (arith, within, length-replicate n none)) in
     absurd (known (ap (λ (i : SimpleImage). i.bytes) is ∙ zero))
-
--- no control has an image behind such a change
-pub controls_put : (list : List SimpleImage) (code : ℕ) (image : SimpleImage) → 32 ≤ code → HaveNoControls list → HaveNoControls (slice_set list code image)
-controls_put list code image high none c low =
-    let other : c ≢ code = λ e. absurd (omega (arith, e, high, low)) in
-    ap (λ (i : SimpleImage). i.bytes) (get_or-set_other list code c image (record { bytes = 0 }) other) ∙ none c low
-
-pub controls_none : (n : ℕ) (none : SimpleImage) → 32 ≤ n → none.bytes ≡ 0 → HaveNoControls (replicate n none)
-controls_none n none long zero c low =
-    ap (λ (i : SimpleImage). i.bytes) (get_or-replicate n c none (record { bytes = 0 }) (omega (arith, long, low))) ∙ zero

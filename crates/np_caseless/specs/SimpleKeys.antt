@@ -17,10 +17,6 @@ pub record IsSimpleKey (v : FoldedVersion) (form : Form) (text key : List ℕ) :
   pub assigned : IsAssigned v.version (chars text)
   pub ends : AddsNoControl text key
 
--- wherever a part begins and ends, its code points are assigned, and it is its own caseless list
-abbrev pub IsEachPartOwnKey : FoldedVersion → Form → List ℕ → Type 0
-IsEachPartOwnKey v form cs = (before part after : List ℕ) → cs ≡ before ++ (part ++ after) → IsAssigned v.version part × IsCaseless v form part part
-
 -- wherever a part of a text begins and ends, what stands at its place in other bytes is its caseless key, and it is assigned
 abbrev pub IsEachPartKey : FoldedVersion → Form → List ℕ → List ℕ → Type 0
 IsEachPartKey v form text keys =

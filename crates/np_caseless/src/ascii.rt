@@ -2,7 +2,7 @@
 ghost use Rattle.std.specs.Prelude.{◌≡◌, ◌⊎◌, ◌<◌, ◌≤◌, ◌++◌, ◌∷◌, [], drop, get_or, length, map, IfOk, IfSome, IsAscii, IsTrue, OnOk};
 ghost use Rattle.std.specs.Cow.{cow_str_bytes};
 ghost use Rattle.np_caseless.specs.Folded.{folded_by};
-ghost use Rattle.np_caseless.specs.inside.AsciiFoldings.{FoldsAscii, FoldsToByte, KeepsAscii, LowersAscii};
+ghost use Rattle.np_caseless.specs.inside.AsciiFoldings.{FoldsAscii, FoldsToByte, KeepsAscii};
 ghost use Rattle.np_foldings.specs.Foldings.{folding_at};
 
 use np_code_points::{Form, Memory};
@@ -74,21 +74,6 @@ pub(crate) fn ascii_foldings<T: NormTable>(
         bytes.push(folded)?;
     }
     Ok(Some(bytes))
-}
-
-/// Whether each character of ASCII is known to fold to its lowercase.
-pub(crate) fn are_lowercases(bytes: &[u8]) -> bool
-    ensures { IsTrue result → LowersAscii bytes.now }
-{
-    if bytes.len() != ASCII {
-        return false;
-    }
-    for at in 0..ASCII {
-        if bytes[at] != (at as u8).to_ascii_lowercase() {
-            return false;
-        }
-    }
-    true
 }
 
 /// Appends what the bytes of a text of ASCII fold to, `bytes` having that of each character at its place.

@@ -1,5 +1,6 @@
 //! Characters of one to three bytes where they stand in a text.
-ghost use Rattle.std.specs.Prelude.{◌≡◌, ◌<◌, ◌/◌, drop, get_or, length, IsUtf8};
+ghost use Rattle.std.specs.Prelude.{◌≡◌, ◌<◌, ◌/◌, drop, get_or, length, IfSome, IsUtf8};
+ghost use Rattle.std.specs.Str.{IsCharBoundary};
 ghost use Rattle.np_caseless.specs.inside.SimpleImages.{IsCodeAt};
 
 /// A character in a text.
@@ -60,4 +61,18 @@ pub(crate) fn three_at(bytes: &[u8], at: usize) -> Character
         + usize::from(bytes[at + 2])
         - 0xE_2080;
     Character { at, count: 3, code }
+}
+
+/// The character at a place, however many bytes it has; none at the end.
+pub(crate) fn char_at(text: &str, at: usize) -> Option<Character>
+    requires { IsCharBoundary text.now at }
+    ensures here { IfSome result (λ here. IsCodeAt text.now at here.count here.code) }
+    ensures place { IfSome result (λ here. here.at ≡ at) }
+{
+    let code = text[at..].chars().next()?;
+    Some(Character {
+        at,
+        count: code.len_utf8(),
+        code: u32::from(code) as usize,
+    })
 }

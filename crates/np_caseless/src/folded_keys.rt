@@ -5,17 +5,15 @@ ghost use Rattle.std.specs.Str.{IsCharBoundary};
 ghost use Rattle.np_forms.specs.Assigned.{IsAssigned};
 ghost use Rattle.np_forms.specs.Faults.{IsNpssFault};
 ghost use Rattle.np_forms.specs.Forms.{IsNormalForm};
-ghost use Rattle.np_code_points.specs.Lines.{HasNo};
 ghost use Rattle.np_caseless.specs.Caseless.{IsCaseless};
-ghost use Rattle.np_caseless.specs.SimpleKeys.{IsEachPartKey, IsEachPartOwnKey, IsSimpleKey};
+ghost use Rattle.np_caseless.specs.SimpleKeys.{IsEachPartKey};
 
 use crate::ascii::folded_text;
 use crate::folded_tables::FoldedTable;
 use crate::image_texts::image_text;
 use crate::keys::caseless_key;
-use crate::marks::{are_marked, behind_marked};
-use crate::own_forms::is_own_form;
-use crate::simple_texts::write_front;
+use crate::marks::are_marked;
+use crate::simple_texts::make_front;
 use np_code_points::{Form, Memory};
 use np_forms::{NpssFault, first_unassigned_char, into_npss, lend_npss, quick_check_span};
 use np_versions::{NormTable, ascii_front};
@@ -34,18 +32,6 @@ fn refusal<T: NormTable>(table: &T, text: &str) -> NpssFault
 }
 
 impl<T: NormTable + Drop> FoldedTable<T> {
-    /// How many bytes at the front of a text are known to be their own caseless keys, each part of them for itself. Takes no
-    /// memory.
-    pub fn own_key_span(&self, wanted: Form, text: &str) -> usize
-        ensures boundary { IsCharBoundary text.now result }
-        ensures own { IsEachPartOwnKey self.now wanted (chars (take result text.now)) }
-    {
-        self.meets_conditions();
-        let behind = behind_marked(self.images(wanted.compat()).own.as_slice(), text);
-        let (front, _behind) = text.split_at(text.len() - behind.len());
-        quick_check_span(self.table(), wanted, front)
-    }
-
     /// Writes the caseless keys of the code points at the front of a text, where they are told code point by code point and each
     /// has as many bytes as its code point, to the front of the room. Answers how many bytes that front has: each part of it, from
     /// one code point to another, has as its caseless key what was written at its place. The rest of the room may hold anything.
@@ -56,46 +42,19 @@ impl<T: NormTable + Drop> FoldedTable<T> {
         ensures boundary { IsCharBoundary text.now result }
         ensures keys { IsEachPartKey self.now wanted (take result text.now) room.new }
     {
-        0
-    }
-
-    /// Writes the caseless key of what stands before the first `stop` in a text, or of all where there is none, to the front of
-    /// the room, where each code point there has an image of as many bytes. Answers how many bytes it has; none where it wasn't
-    /// made so, as where `stop` is no control of ASCII, and then anything may stand in the room.
-    #[inline(always)]
-    pub fn write_key_before(
-        &self,
-        wanted: Form,
-        stop: u8,
-        text: &str,
-        room: &mut [u8],
-    ) -> Option<usize>
-        requires ascii { stop < 128 }
-        requires room { length text.now ≤ length room.now }
-        ensures length { length room.new ≡ length room.old }
-        ensures within { IfSome result (λ n. n ≤ length text.now) }
-        ensures free { IfSome result (λ n. HasNo stop (take n text.now)) }
-        ensures stop { IfSome result (λ n. n < length text.now → get_or text.now n 0 ≡ stop) }
-        ensures key { IfSome result (λ n. IsSimpleKey self.now wanted (take n text.now) (take n room.new)) }
-    {
-        if stop >= 32 {
-            return None;
-        }
         self.meets_conditions();
-        let made = write_front(self.known_images(wanted), text, stop, room);
-        let count = made.count;
-        if count < text.len() && text.as_bytes()[count] != stop {
-            return None;
+        let known = self.known_images(wanted);
+        if !known.lowers {
+            return 0;
         }
+        room.copy_from_slice(text.as_bytes());
+        room.make_ascii_lowercase();
+        let made = make_front(known, text, room);
         if made.apart {
-            return Some(count);
+            return made.count;
         }
-        let key = unsafe { from_utf8_unchecked(&room[..count]) };
-        if is_own_form(self.table(), wanted, key) {
-            Some(count)
-        } else {
-            None
-        }
+        let keys = unsafe { from_utf8_unchecked(&room[..made.count]) };
+        text.floor_char_boundary(quick_check_span(self.table(), wanted, keys))
     }
 
     /// The caseless key of a text by the images of its code points that are as long, where all have one.
@@ -110,10 +69,7 @@ impl<T: NormTable + Drop> FoldedTable<T> {
     {
         let mut room = Vec::new(alloc);
         room.resize(text.len(), 0)?;
-        let Some(count) = self.write_key_before(wanted, 0, text, room.as_mut_slice()) else {
-            return Ok(None);
-        };
-        if count < text.len() {
+        if self.write_keys(wanted, text, room.as_mut_slice()) < text.len() {
             return Ok(None);
         }
         Ok(Some(unsafe { String::from_utf8_unchecked(room) }))

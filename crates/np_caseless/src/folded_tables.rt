@@ -3,15 +3,15 @@ ghost use Rattle.std.specs.Prelude.{◌≡◌, ◌⊎◌, length, IfOk, IfErr, I
 ghost use Rattle.np_caseless.specs.Conditions.{IsSoundFolding};
 ghost use Rattle.np_caseless.specs.ConditionFaults.{IsFaultless, IsLeastFault};
 ghost use Rattle.np_caseless.specs.Folded.{folded_by};
-ghost use Rattle.np_caseless.specs.inside.AsciiFoldings.{FoldsAscii, LowersAscii};
+ghost use Rattle.np_caseless.specs.inside.AsciiFoldings.{FoldsAscii};
 ghost use Rattle.np_caseless.specs.inside.FirstFaults.{AreMapped};
 ghost use Rattle.np_caseless.specs.inside.ImageTables.{AreAllImages};
-ghost use Rattle.np_caseless.specs.inside.SimpleImages.{AreOfForm, AreOfForms};
+ghost use Rattle.np_caseless.specs.inside.SimpleImages.{AreLowered, AreOfForm, AreOfForms, LowerAscii};
 ghost use Rattle.np_caseless.specs.inside.SimpleTexts.{AreOwn};
 ghost use Rattle.np_code_points.specs.Forms.{is_compat};
 ghost use Rattle.np_caseless.specs.declared.faults.ConditionFault.TheVariants.{Memory as OutOfMemory};
 
-use crate::ascii::{are_lowercases, ascii_foldings};
+use crate::ascii::ascii_foldings;
 use crate::faults::ConditionFault;
 use crate::first_faults::first_fault;
 use crate::image_tables::Images;
@@ -34,17 +34,16 @@ pub struct FoldedTable<T: NormTable + Drop> {
     canonical: Images,
     compatible: Images,
     ascii: Option<Vec<u8>>,
-    lowers: bool,
     simple: SimpleImages,
 }
 
 impl<T: NormTable + Drop> Model for FoldedTable<T> {
-    ghost use Rattle.std.specs.Prelude.{IfSome, IsTrue};
+    ghost use Rattle.std.specs.Prelude.{IfSome};
     ghost use Rattle.np_caseless.specs.Conditions.{IsSoundFolding};
     ghost use Rattle.np_caseless.specs.Folded.{FoldedVersion, folded_by};
-    ghost use Rattle.np_caseless.specs.inside.AsciiFoldings.{FoldsAscii, LowersAscii};
+    ghost use Rattle.np_caseless.specs.inside.AsciiFoldings.{FoldsAscii};
     ghost use Rattle.np_caseless.specs.inside.ImageTables.{HaveImages};
-    ghost use Rattle.np_caseless.specs.inside.SimpleImages.{AreOfForms};
+    ghost use Rattle.np_caseless.specs.inside.SimpleImages.{AreLowered, AreOfForms};
 
     ghost Value = { FoldedVersion };
 
@@ -53,8 +52,8 @@ impl<T: NormTable + Drop> Model for FoldedTable<T> {
     ghost invariant = { λ a. IsSoundFolding (folded_by (T.model a.table) a.foldings)
         × HaveImages (folded_by (T.model a.table) a.foldings) a.canonical a.compatible
         × IfSome a.ascii (λ bytes. FoldsAscii (folded_by (T.model a.table) a.foldings) bytes.items)
-        × (IsTrue a.lowers → IfSome a.ascii (λ bytes. LowersAscii bytes.items))
-        × AreOfForms (folded_by (T.model a.table) a.foldings) a.simple };
+        × AreOfForms (folded_by (T.model a.table) a.foldings) a.simple
+        × AreLowered a.simple };
 }
 
 /// Tells the fault at the least code point, where there is one, else the code points that have a mapping in the file.
@@ -72,16 +71,6 @@ fn judge<T: NormTable>(
     match first_fault(alloc, table, foldings, lowercases, mapped.as_slice())? {
         Some(fault) => Err(fault),
         None => Ok(mapped),
-    }
-}
-
-/// Whether what ASCII folds to is known, and is its lowercases.
-fn lower(ascii: &Option<Vec<u8>>) -> bool
-    ensures { IsTrue result → IfSome ascii.now (λ bytes. LowersAscii bytes.items) }
-{
-    match ascii {
-        Some(bytes) => are_lowercases(bytes.as_slice()),
-        None => false,
     }
 }
 
@@ -110,7 +99,6 @@ impl<T: NormTable + Drop> FoldedTable<T> {
         let canonical = Images::build(alloc, &table, &foldings, false, codes)?;
         let compatible = Images::build(alloc, &table, &foldings, true, codes)?;
         let ascii = ascii_foldings(alloc, &table, &foldings)?;
-        let lowers = lower(&ascii);
         let simple = SimpleImages::build(alloc, &table, &canonical, &compatible)?;
         Ok(FoldedTable {
             table,
@@ -118,7 +106,6 @@ impl<T: NormTable + Drop> FoldedTable<T> {
             canonical,
             compatible,
             ascii,
-            lowers,
             simple,
         })
     }
@@ -143,7 +130,8 @@ impl<T: NormTable + Drop> FoldedTable<T> {
 
     /// The images that are as long as their code points.
     fn simple_images(&self) -> &SimpleImages
-        ensures { AreOfForms self.now result.now }
+        ensures images { AreOfForms self.now result.now }
+        ensures lowers { AreLowered result.now }
     {
         &self.simple
     }
@@ -152,10 +140,13 @@ impl<T: NormTable + Drop> FoldedTable<T> {
     pub(crate) fn known_images(&self, wanted: Form) -> KnownImages<'_>
         ensures simple { AreOfForm self.now wanted result.simple.now }
         ensures own { AreOwn self.now (is_compat wanted) result.own.now }
+        ensures lowers { IsTrue result.lowers → LowerAscii result.simple.now }
     {
+        let images = self.simple_images();
         KnownImages {
-            simple: self.simple_images().by_form(wanted),
+            simple: images.by_form(wanted),
             own: self.images(wanted.compat()).own.as_slice(),
+            lowers: images.lowers,
         }
     }
 
@@ -166,23 +157,6 @@ impl<T: NormTable + Drop> FoldedTable<T> {
     {
         match &self.ascii {
             Some(bytes) => Some(bytes.as_slice()),
-            None => None,
-        }
-    }
-
-    /// The same, where these are the lowercases of ASCII.
-    pub fn lowered_ascii(&self) -> Option<&[u8]>
-        ensures folds { IfSome result (λ bytes. FoldsAscii self.now bytes.now) }
-        ensures lowers { IfSome result (λ bytes. LowersAscii bytes.now) }
-    {
-        match &self.ascii {
-            Some(bytes) => {
-                if self.lowers {
-                    Some(bytes.as_slice())
-                } else {
-                    None
-                }
-            }
             None => None,
         }
     }

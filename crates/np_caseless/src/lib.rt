@@ -19,6 +19,7 @@ mod image_texts;
 mod images;
 mod keys;
 pub mod laws;
+mod leads;
 mod leasts;
 mod lent_parts;
 mod mapped_rows;

@@ -1,5 +1,6 @@
 //! Images that have as many bytes as what they stand for, and stand for it whatever is around it.
 ghost use Rattle.std.specs.Prelude.{◌≡◌, ◌≢◌, ◌+◌, ◌*◌, ◌∷◌, [], ◌≤◌, ℕ, Bool, true, false, chars as code_points, encode_utf8, length, IfOk, IfSome, IsTrue, IsUtf8};
+ghost use Rattle.std.specs.Char.{to_ascii_lowercase};
 ghost use Rattle.std.specs.List.{All};
 ghost use Rattle.np_code_points.specs.Forms.{is_compat};
 ghost use Rattle.np_caseless.specs.Folded.{FoldedVersion};
@@ -7,7 +8,7 @@ ghost use Rattle.np_versions.specs.Boundaries.{BeginsAtBoundary};
 ghost use Rattle.np_caseless.specs.inside.Images.{AreImages};
 ghost use Rattle.np_caseless.specs.inside.ImageTables.{AreAllImages};
 ghost use Rattle.np_caseless.specs.SimpleKeys.{AddsNoControl};
-ghost use Rattle.np_caseless.specs.inside.SimpleImages.{AreOfForm, AreOfForms, HaveNoControls, IsApart, IsSimple, MayBecome, bytes_of};
+ghost use Rattle.np_caseless.specs.inside.SimpleImages.{AreLowered, AreOfForm, AreOfForms, IsApart, IsSimple, LowerAscii, MayBecome, bytes_of};
 
 use crate::image_tables::Images;
 use crate::image_texts::image_of;
@@ -23,7 +24,13 @@ const SIMPLE: usize = 0x3000;
 /// The code points below this have theirs, folding or not: ASCII, the other signs of Latin-1, and letters.
 const FIRST: u32 = 0x250;
 
-/// The bytes of an image, as many as its code point has, the first one lowest; 0 where no image is known.
+/// What an image has above its bytes.
+const KNOWN: u32 = 0x100_0000;
+
+/// How many characters ASCII has.
+const ASCII: usize = 128;
+
+/// The bytes of an image, as many as its code point has, the first one lowest, and `KNOWN`; 0 where no image is known.
 #[derive(Clone, Copy)]
 pub(crate) struct SimpleImage {
     pub(crate) bytes: u32,
@@ -36,6 +43,8 @@ pub(crate) struct SimpleImages {
     pub(crate) nfc: Vec<SimpleImage>,
     pub(crate) nfkd: Vec<SimpleImage>,
     pub(crate) nfkc: Vec<SimpleImage>,
+    /// Whether each has the lowercases of ASCII.
+    pub(crate) lowers: bool,
 }
 
 /// No image.
@@ -46,12 +55,11 @@ fn unknown() -> SimpleImage
 }
 
 /// Three bytes as an image.
-#[inline(always)]
-pub(crate) fn packed(first: u8, second: u8, third: u8) -> SimpleImage
-    ensures { result.bytes ≡ first + 256 * second + 65536 * third }
+fn packed(first: u8, second: u8, third: u8) -> SimpleImage
+    ensures { result.bytes ≡ 0x1000000 + first + 256 * second + 65536 * third }
 {
     SimpleImage {
-        bytes: u32::from(first) + 256 * u32::from(second) + 65536 * u32::from(third),
+        bytes: KNOWN + u32::from(first) + 256 * u32::from(second) + 65536 * u32::from(third),
     }
 }
 
@@ -147,14 +155,13 @@ fn simple_image<T: NormTable>(table: &T, images: &Images, form: Form, code: char
     }
 }
 
-/// Puts the image of a code point to its place, where it has one and none is known yet, and it is no control of ASCII.
+/// Puts the image of a code point to its place, where it has one and none is known yet.
 fn put<T: NormTable>(table: &T, images: &Images, form: Form, code: char, list: &mut [SimpleImage])
     ensures length { length list.new ≡ length list.old }
     ensures simple { MayBecome (T.model table.now) images.now form list.old list.new }
-    ensures controls { HaveNoControls list.old → HaveNoControls list.new }
 {
     let at = u32::from(code) as usize;
-    if 32 <= at && at < list.len() && list[at].bytes == 0 {
+    if at < list.len() && list[at].bytes == 0 {
         list[at] = simple_image(table, images, form, code);
     }
 }
@@ -169,7 +176,6 @@ fn put_text<T: NormTable>(
 )
     ensures length { length list.new ≡ length list.old }
     ensures simple { MayBecome (T.model table.now) images.now form list.old list.new }
-    ensures controls { HaveNoControls list.old → HaveNoControls list.new }
 {
     for code in text.chars() {
         put(table, images, form, code, list);
@@ -180,7 +186,6 @@ fn put_text<T: NormTable>(
 fn put_first<T: NormTable>(table: &T, images: &Images, form: Form, list: &mut [SimpleImage])
     ensures length { length list.new ≡ length list.old }
     ensures simple { MayBecome (T.model table.now) images.now form list.old list.new }
-    ensures controls { HaveNoControls list.old → HaveNoControls list.new }
 {
     for code in 0..FIRST {
         if let Some(code) = char::from_u32(code) {
@@ -193,7 +198,6 @@ fn put_first<T: NormTable>(table: &T, images: &Images, form: Form, list: &mut [S
 fn put_folding<T: NormTable>(table: &T, images: &Images, form: Form, list: &mut [SimpleImage])
     ensures length { length list.new ≡ length list.old }
     ensures simple { MayBecome (T.model table.now) images.now form list.old list.new }
-    ensures controls { HaveNoControls list.old → HaveNoControls list.new }
 {
     for at in 0..images.of_foldings.len() {
         let image = &images.of_foldings[at];
@@ -206,7 +210,6 @@ fn put_folding<T: NormTable>(table: &T, images: &Images, form: Form, list: &mut 
 fn put_all<T: NormTable>(table: &T, images: &Images, form: Form, list: &mut [SimpleImage])
     ensures length { length list.new ≡ length list.old }
     ensures simple { MayBecome (T.model table.now) images.now form list.old list.new }
-    ensures controls { HaveNoControls list.old → HaveNoControls list.new }
 {
     put_first(table, images, form, list);
     put_folding(table, images, form, list);
@@ -228,6 +231,21 @@ fn simple_images<T: NormTable>(
     Ok(list)
 }
 
+/// Whether each character of ASCII is known to have its lowercase.
+fn lower_ascii(list: &[SimpleImage]) -> bool
+    ensures { IsTrue result → LowerAscii list.now }
+{
+    if list.len() < ASCII {
+        return false;
+    }
+    for at in 0..ASCII {
+        if list[at].bytes != KNOWN + u32::from((at as u8).to_ascii_lowercase()) {
+            return false;
+        }
+    }
+    true
+}
+
 impl SimpleImages {
     /// The images by each form, of those by each kind of normalization.
     ///
@@ -240,20 +258,31 @@ impl SimpleImages {
         canonical: &Images,
         compatible: &Images,
     ) -> Result<SimpleImages, Memory>
-        ensures { (v : FoldedVersion) → v.version ≡ T.model table.now → AreAllImages v false canonical.now → AreAllImages v true compatible.now
+        ensures images { (v : FoldedVersion) → v.version ≡ T.model table.now → AreAllImages v false canonical.now → AreAllImages v true compatible.now
             → IfOk result (AreOfForms v) }
+        ensures lowers { IfOk result AreLowered }
     {
+        let nfd = simple_images(alloc, table, canonical, Form::Nfd)?;
+        let nfc = simple_images(alloc, table, canonical, Form::Nfc)?;
+        let nfkd = simple_images(alloc, table, compatible, Form::Nfkd)?;
+        let nfkc = simple_images(alloc, table, compatible, Form::Nfkc)?;
+        let lowers = lower_ascii(nfd.as_slice())
+            && lower_ascii(nfc.as_slice())
+            && lower_ascii(nfkd.as_slice())
+            && lower_ascii(nfkc.as_slice());
         Ok(SimpleImages {
-            nfd: simple_images(alloc, table, canonical, Form::Nfd)?,
-            nfc: simple_images(alloc, table, canonical, Form::Nfc)?,
-            nfkd: simple_images(alloc, table, compatible, Form::Nfkd)?,
-            nfkc: simple_images(alloc, table, compatible, Form::Nfkc)?,
+            nfd,
+            nfc,
+            nfkd,
+            nfkc,
+            lowers,
         })
     }
 
     /// Those by one form.
     pub(crate) fn by_form(&self, form: Form) -> &[SimpleImage]
-        ensures { (v : FoldedVersion) → AreOfForms v self.now → AreOfForm v form result.now }
+        ensures images { (v : FoldedVersion) → AreOfForms v self.now → AreOfForm v form result.now }
+        ensures lowers { AreLowered self.now → IsTrue self.now.lowers → LowerAscii result.now }
     {
         match form {
             Form::Nfd => self.nfd.as_slice(),

@@ -1,17 +1,15 @@
-//! Texts that are made into their caseless keys where they stand, each code point by an image that is as long.
-ghost use Rattle.std.specs.Prelude.{◌≡◌, ◌≢◌, ◌++◌, ◌+◌, ◌<◌, ◌≤◌, ◌/◌, ℕ, true, false, drop, encode_utf8, get_or, length, take, IfSome, IsFalse, IsTrue, IsUtf8};
-ghost use Rattle.np_code_points.specs.Forms.{is_compat};
-ghost use Rattle.np_code_points.specs.Lines.{HasNo};
-ghost use Rattle.np_code_points.specs.declared.forms.Form.{Form};
-ghost use Rattle.np_caseless.specs.Conditions.{IsSoundFolding};
-ghost use Rattle.np_caseless.specs.Folded.{FoldedVersion};
-ghost use Rattle.np_caseless.specs.inside.ImageTables.{IsMarked};
-ghost use Rattle.np_caseless.specs.inside.SimpleImages.{AreSimple, HaveNoControls, IsCodeAt, bytes_of, listed};
-ghost use Rattle.np_caseless.specs.inside.SimpleTexts.{AreOwn, GoesOn, IsCodeWritten, IsMadeOfFront};
+//! Texts that are made into their caseless keys where they stand, each code point by what stands for it in as many bytes.
+//!
+//! All of ASCII is made lowercase at once before that, and what doesn't change is there already. So only the bytes are looked at
+//! that begin characters of several bytes; which these are is told of 64 bytes at once, without a branch for each.
+ghost use Rattle.std.specs.Prelude.{◌≡◌, ◌≢◌, ◌++◌, ◌+◌, ◌&&◌, ◌<◌, ◌≤◌, ℕ, Bool, List, drop, encode_utf8, get_or, length, take, true, IfNone, IfSome, IsUtf8};
+ghost use Rattle.np_caseless.specs.inside.SimpleImages.{IsCodeAt, LowerAscii, bytes_of, listed};
+ghost use Rattle.np_caseless.specs.inside.SimpleTexts.{AreMade};
 
-use crate::characters::{Character, one_at, three_at, two_at};
+use crate::characters::{Character, char_at, three_at, two_at};
+use crate::leads::{LANES, leads_from, lowest};
 use crate::marks::is_marked_code;
-use crate::simple_images::{SimpleImage, packed};
+use crate::simple_images::SimpleImage;
 
 /// The images that are known.
 #[derive(Clone, Copy)]
@@ -20,6 +18,8 @@ pub(crate) struct KnownImages<'t> {
     pub(crate) simple: &'t [SimpleImage],
     /// By code point, 1 where it is its own image.
     pub(crate) own: &'t [u8],
+    /// Whether each character of ASCII has its lowercase among the first.
+    pub(crate) lowers: bool,
 }
 
 /// What was made of the front of a text.
@@ -31,6 +31,15 @@ pub(crate) struct MadeFront {
     pub(crate) apart: bool,
 }
 
+/// What was made of a character.
+#[derive(Clone, Copy)]
+struct MadeCharacter {
+    /// How many bytes it has.
+    count: usize,
+    /// Whether what was made is known to stand apart.
+    apart: bool,
+}
+
 /// Writes the bytes of an image to where a character of as many stands.
 #[inline(always)]
 fn put_image(image: SimpleImage, here: Character, room: &mut [u8])
@@ -39,6 +48,7 @@ fn put_image(image: SimpleImage, here: Character, room: &mut [u8])
     requires room { here.at + here.count ≤ length room.now }
     ensures length { length room.new ≡ length room.old }
     ensures written { take (here.at + here.count) room.new ≡ take here.at room.old ++ bytes_of here.count image }
+    ensures behind { drop (here.at + here.count) room.new ≡ drop (here.at + here.count) room.old }
 {
     room[here.at] = (image.bytes % 256) as u8;
     if here.count > 1 {
@@ -49,23 +59,7 @@ fn put_image(image: SimpleImage, here: Character, room: &mut [u8])
     }
 }
 
-/// The bytes of a character, as an image.
-#[inline(always)]
-fn own_bytes(bytes: &[u8], here: Character) -> SimpleImage
-    requires some { 0 < here.count }
-    requires few { here.count ≤ 3 }
-    requires here { IsCodeAt bytes.now here.at here.count here.code }
-    ensures { bytes_of here.count result ≡ encode_utf8 here.code }
-{
-    let first = bytes[here.at];
-    match here.count {
-        1 => packed(first, 0, 0),
-        2 => packed(first, bytes[here.at + 1], 0),
-        _ => packed(first, bytes[here.at + 1], bytes[here.at + 2]),
-    }
-}
-
-/// The simple image of a character, where it is known.
+/// The simple image of a character of several bytes, where it is known.
 #[inline(always)]
 fn image_at(simple: &[SimpleImage], here: Character) -> Option<SimpleImage>
     requires size { length simple.now ≡ 0x3000 }
@@ -79,161 +73,116 @@ fn image_at(simple: &[SimpleImage], here: Character) -> Option<SimpleImage>
     if image.bytes == 0 { None } else { Some(image) }
 }
 
-/// Writes the image of a character to where it stands, where it is known to stand for it whatever is around it; answers whether
-/// it is. No control of ASCII has one.
+/// Writes what stands for a character of several bytes to where it stands: its image, or itself, which stands there already. None
+/// where nothing is known of it.
 #[inline(always)]
-fn write_image(known: KnownImages<'_>, bytes: &[u8], here: Character, room: &mut [u8]) -> bool
+fn make(known: KnownImages<'_>, here: Character, room: &mut [u8]) -> Option<MadeCharacter>
     requires size { length known.simple.now ≡ 0x3000 }
-    requires controls { HaveNoControls known.simple.now }
-    requires some { 0 < here.count }
-    requires few { here.count ≤ 3 }
     requires within { here.count ≤ 2 → here.code < 0x3000 }
-    requires here { IsCodeAt bytes.now here.at here.count here.code }
-    requires room { length bytes.now ≤ length room.now }
-    ensures length { length room.new ≡ length room.old }
-    ensures written { IsTrue result → IsCodeWritten known.entry bytes.now here.at here.count here.code true room.old room.new }
-    ensures kept { IsFalse result → room.new ≡ room.old }
-    ensures control { IsTrue result → 32 ≤ here.code }
+    requires several { 1 < here.count }
+    requires encoded { length (encode_utf8 here.code) ≡ here.count }
+    requires room { here.at + here.count ≤ length room.now }
+    ensures count { IfSome result (λ made. made.count ≡ here.count) }
+    ensures made { IfSome result (λ made. (text : List ℕ) (apart : Bool) → IsCodeAt text here.at here.count here.code
+        → AreMade known.entry text room.old here.at apart → AreMade known.entry text room.new (here.at + made.count) (apart && made.apart)) }
+    ensures kept { IfNone result (room.new ≡ room.old) }
 {
-    let Some(image) = image_at(known.simple, here) else {
-        return false;
-    };
-    put_image(image, here, room);
-    true
-}
-
-/// Writes a character to where it stands, where it is its own image; answers whether it is.
-#[inline(always)]
-fn keep(known: KnownImages<'_>, bytes: &[u8], here: Character, room: &mut [u8]) -> bool
-    requires some { 0 < here.count }
-    requires few { here.count ≤ 3 }
-    requires here { IsCodeAt bytes.now here.at here.count here.code }
-    requires room { length bytes.now ≤ length room.now }
-    ensures length { length room.new ≡ length room.old }
-    ensures written { IsTrue result → IsCodeWritten known.entry bytes.now here.at here.count here.code false room.old room.new }
-    ensures kept { IsFalse result → room.new ≡ room.old }
-{
+    if let Some(image) = image_at(known.simple, here) {
+        put_image(image, here, room);
+        return Some(MadeCharacter {
+            count: here.count,
+            apart: true,
+        });
+    }
     if !is_marked_code(known.own, here.code) {
-        return false;
+        return None;
     }
-    put_image(own_bytes(bytes, here), here, room);
-    true
+    Some(MadeCharacter {
+        count: here.count,
+        apart: false,
+    })
 }
 
-/// Writes the images of the code points of a text from a place on, up to one that has none that is known to stand for it whatever
-/// is around it; answers the place of that one.
+/// Writes what stands for the character that begins at a place, one of several bytes. None where nothing is known of it.
 #[inline(always)]
-fn write_simple(known: KnownImages<'_>, bytes: &[u8], from: usize, room: &mut [u8]) -> usize
+fn make_at(known: KnownImages<'_>, text: &str, at: usize, room: &mut [u8]) -> Option<MadeCharacter>
     requires size { length known.simple.now ≡ 0x3000 }
-    requires controls { HaveNoControls known.simple.now }
-    requires place { from ≤ length bytes.now }
-    requires utf8 { IsUtf8 (drop from bytes.now) }
-    requires room { length bytes.now ≤ length room.now }
-    ensures length { length room.new ≡ length room.old }
-    ensures later { from ≤ result }
-    ensures goes { GoesOn known.entry bytes.now from result true room.old room.new }
-    ensures free { (b : ℕ) → b < 32 → HasNo b (take from bytes.now) → HasNo b (take result bytes.now) }
+    requires place { at < length text.now }
+    requires lead_byte { 192 ≤ get_or text.now at 0 }
+    requires utf8 { IsUtf8 (drop at text.now) }
+    requires room { length room.now ≡ length text.now }
+    ensures some { IfSome result (λ made. 0 < made.count) }
+    ensures few { IfSome result (λ made. made.count ≤ 4) }
+    ensures made { IfSome result (λ made. (apart : Bool) → AreMade known.entry text.now room.old at apart
+        → AreMade known.entry text.now room.new (at + made.count) (apart && made.apart)) }
+    ensures kept { IfNone result (room.new ≡ room.old) }
 {
-    let mut at = from;
-    'codes: while at < bytes.len() {
-        let lead_byte = bytes[at];
-        if lead_byte < 0x80 {
-            if !write_image(known, bytes, one_at(bytes, at), room) {
-                return at;
-            }
-            at += 1;
-        } else if lead_byte / 32 == 6 {
-            if !write_image(known, bytes, two_at(bytes, at), room) {
-                return at;
-            }
-            at += 2;
-        } else if lead_byte / 16 == 14 {
-            if !write_image(known, bytes, three_at(bytes, at), room) {
-                return at;
-            }
-            at += 3;
-        } else {
-            return at;
-        }
+    let bytes = text.as_bytes();
+    let lead_byte = bytes[at];
+    if lead_byte / 32 == 6 {
+        make(known, two_at(bytes, at), room)
+    } else if lead_byte / 16 == 14 {
+        make(known, three_at(bytes, at), room)
+    } else {
+        make(known, char_at(text, at)?, room)
     }
-    at
 }
 
-/// Writes the code points of a text from a place on, up to a `stop` or one that isn't its own image; answers the place of that.
+/// Goes on with what stands for the code points of a text by those that begin in the next 64 bytes, as far as they are known.
 #[inline(always)]
-fn keep_own(known: KnownImages<'_>, bytes: &[u8], from: usize, stop: u8, room: &mut [u8]) -> usize
-    requires ascii { stop < 128 }
-    requires place { from ≤ length bytes.now }
-    requires utf8 { IsUtf8 (drop from bytes.now) }
-    requires room { length bytes.now ≤ length room.now }
-    ensures length { length room.new ≡ length room.old }
-    ensures later { from ≤ result }
-    ensures goes { GoesOn known.entry bytes.now from result false room.old room.new }
-    ensures free { HasNo stop (take from bytes.now) → HasNo stop (take result bytes.now) }
-    ensures kept { result ≡ from → room.new ≡ room.old }
-{
-    let mut at = from;
-    'codes: while at < bytes.len() && bytes[at] != stop {
-        let lead_byte = bytes[at];
-        if lead_byte < 0x80 {
-            if !keep(known, bytes, one_at(bytes, at), room) {
-                return at;
-            }
-            at += 1;
-        } else if lead_byte / 32 == 6 {
-            if !keep(known, bytes, two_at(bytes, at), room) {
-                return at;
-            }
-            at += 2;
-        } else if lead_byte / 16 == 14 {
-            if !keep(known, bytes, three_at(bytes, at), room) {
-                return at;
-            }
-            at += 3;
-        } else {
-            return at;
-        }
-    }
-    at
-}
-
-/// Writes what stands for the code points of a text to the front of the room, up to the first `stop`, a control of ASCII, or one
-/// of which nothing is known: images as long as nothing else is needed, and then code points that are their own, in turns.
-#[inline(always)]
-pub(crate) fn write_front(
+fn make_next(
     known: KnownImages<'_>,
     text: &str,
-    stop: u8,
+    front: MadeFront,
     room: &mut [u8],
 ) -> MadeFront
     requires size { length known.simple.now ≡ 0x3000 }
-    requires controls { HaveNoControls known.simple.now }
-    requires control { stop < 32 }
-    requires room { length text.now ≤ length room.now }
-    ensures length { length room.new ≡ length room.old }
-    ensures within { result.count ≤ length text.now }
-    ensures free { HasNo stop (take result.count text.now) }
-    ensures made { (v : FoldedVersion) (form : Form) → IsSoundFolding v → AreSimple v form known.entry.simple.now
-        → AreOwn v (is_compat form) known.entry.own.now
-        → IsMadeOfFront v form result.apart text.now (drop result.count text.now) (take result.count room.new) }
+    requires lowers { LowerAscii known.simple.now }
+    requires made { AreMade known text.now room.now front.count front.apart }
+    ensures made { AreMade known.entry text.now room.new result.count result.apart }
+    ensures later { front.count ≤ result.count }
 {
     let bytes = text.as_bytes();
+    let mut made = front;
+    let mut left = leads_from(bytes, front.count);
+    'leads: while left != 0 {
+        let before = lowest(left);
+        let at = made.count + before;
+        let Some(code) = make_at(known, text, at, room) else {
+            return MadeFront {
+                count: at,
+                apart: made.apart,
+            };
+        };
+        left = left >> before >> code.count;
+        made = MadeFront {
+            count: at + code.count,
+            apart: made.apart && code.apart,
+        };
+    }
+    MadeFront {
+        count: bytes.len().min(made.count.max(front.count + LANES)),
+        apart: made.apart,
+    }
+}
+
+/// Writes what stands for the code points at the front of a text to where they stand, up to the first of which nothing is known.
+pub(crate) fn make_front(known: KnownImages<'_>, text: &str, room: &mut [u8]) -> MadeFront
+    requires size { length known.simple.now ≡ 0x3000 }
+    requires lowers { LowerAscii known.simple.now }
+    requires made { AreMade known text.now room.now 0 true }
+    ensures made { AreMade known.entry text.now room.new result.count result.apart }
+{
     let mut front = MadeFront {
         count: 0,
         apart: true,
     };
-    'codes: loop {
-        let at = write_simple(known, bytes, front.count, room);
-        let count = keep_own(known, bytes, at, stop, room);
-        if count == at {
-            return MadeFront {
-                count,
-                apart: front.apart,
-            };
+    'blocks: while front.count < text.len() {
+        let next = make_next(known, text, front, room);
+        if next.count < text.len() && next.count < front.count + LANES {
+            return next;
         }
-        front = MadeFront {
-            count,
-            apart: false,
-        };
+        front = next;
     }
+    front
 }

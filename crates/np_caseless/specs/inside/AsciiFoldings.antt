@@ -1,6 +1,5 @@
 -- ASCII that is folded byte by byte.
 use Rattle.std.specs.Prelude.{◌≡◌, ◌⊎◌, ℕ, ◌<◌, ◌≤◌, true, List, [], ◌∷◌, get_or, length}
-use Rattle.std.specs.Char.{to_ascii_lowercase}
 use Rattle.np_code_points.specs.declared.forms.Form.TheVariants.{Nfd, Nfc, Nfkd, Nfkc}
 use Rattle.np_foldings.specs.Foldings.{Folding, folding_at}
 use Rattle.np_versions.specs.Boundaries.{IsYesStarter}
@@ -31,7 +30,3 @@ pub record KeepsAscii (v : VersionData) : Type 0 where
 pub record FoldsAscii (v : FoldedVersion) (bytes : List ℕ) : Type 0 where
   pub keeps : KeepsAscii v.version
   pub folds : AreAsciiFoldings v.foldings bytes
-
--- these are the lowercases of the first code points
-abbrev pub LowersAscii : List ℕ → Type 0
-LowersAscii bytes = (c : ℕ) → c < length bytes → get_or bytes c 0 ≡ to_ascii_lowercase c

@@ -1,5 +1,6 @@
 -- Images that have as many bytes as what they stand for.
-use Rattle.std.specs.Prelude.{◌≡◌, ◌≢◌, ℕ, ◌+◌, ◌/◌, ◌%◌, ◌<◌, ◌≤◌, List, [], ◌∷◌, ◌++◌, chars, drop, encode_utf8, get_or, length, take, IsUtf8}
+use Rattle.std.specs.Prelude.{◌≡◌, ◌≢◌, ℕ, ◌+◌, ◌/◌, ◌%◌, ◌<◌, ◌≤◌, true, List, [], ◌∷◌, ◌++◌, chars, drop, encode_utf8, get_or, length, take, IsUtf8}
+use Rattle.std.specs.Char.{to_ascii_lowercase}
 use Rattle.np_code_points.specs.Forms.{is_compat}
 use Rattle.np_code_points.specs.declared.forms.Form.{Form}
 use Rattle.np_code_points.specs.declared.forms.Form.TheVariants.{Nfd, Nfc, Nfkd, Nfkc}
@@ -44,9 +45,9 @@ listed list c = get_or list c (record { bytes = 0 })
 abbrev pub AreSimple : FoldedVersion → Form → List SimpleImage → Type 0
 AreSimple v form list = (c : ℕ) → c < length list → IsSimple v form c (listed list c)
 
--- no control of ASCII (below 32) has one
-abbrev pub HaveNoControls : List SimpleImage → Type 0
-HaveNoControls list = (c : ℕ) → c < 32 → (listed list c).bytes ≡ 0
+-- each character of ASCII has its lowercase
+abbrev pub LowerAscii : List SimpleImage → Type 0
+LowerAscii list = (c : ℕ) → c < 128 → (listed list c).bytes ≡ 0x1000000 + to_ascii_lowercase c
 
 -- images of the kind of the form make one list of such images into another
 abbrev pub MayBecome : VersionData → Images → Form → List SimpleImage → List SimpleImage → Type 0
@@ -57,7 +58,6 @@ MayBecome version images form before after =
 pub record AreOfForm (v : FoldedVersion) (form : Form) (list : List SimpleImage) : Type 0 where
   pub size : length list ≡ 0x3000
   pub simple : AreSimple v form list
-  pub controls : HaveNoControls list
 
 -- those of each form
 pub record AreOfForms (v : FoldedVersion) (images : SimpleImages) : Type 0 where
@@ -65,6 +65,13 @@ pub record AreOfForms (v : FoldedVersion) (images : SimpleImages) : Type 0 where
   pub nfc : AreOfForm v Nfc images.nfc.items
   pub nfkd : AreOfForm v Nfkd images.nfkd.items
   pub nfkc : AreOfForm v Nfkc images.nfkc.items
+
+-- where the lists are told to have the lowercases of ASCII, each has
+pub record AreLowered (images : SimpleImages) : Type 0 where
+  pub nfd : images.lowers ≡ true → LowerAscii images.nfd.items
+  pub nfc : images.lowers ≡ true → LowerAscii images.nfc.items
+  pub nfkd : images.lowers ≡ true → LowerAscii images.nfkd.items
+  pub nfkc : images.lowers ≡ true → LowerAscii images.nfkc.items
 
 -- at a place in a text a character begins, which has so many bytes
 pub record IsCodeAt (text : List ℕ) (at count code : ℕ) : Type 0 where

@@ -1,16 +1,17 @@
 -- Texts of which each code point has an image that is as long.
-use Rattle.std.specs.Prelude.{◌≡◌, ◌≢◌, ◌⊎◌, ◌&&◌, ℕ, ◌+◌, ◌<◌, ◌≤◌, Bool, true, false, List, [], ◌∷◌, ◌++◌, drop, encode_utf8, encode_utf8_all, length, take, IsUtf8}
+use Rattle.std.specs.Prelude.{◌≡◌, ◌≢◌, ◌⊎◌, ℕ, ◌+◌, ◌<◌, ◌≤◌, Bool, true, false, List, [], ◌∷◌, ◌++◌, drop, encode_utf8, encode_utf8_all, get_or, length, map, take, IsUtf8}
+use Rattle.std.specs.Char.{to_ascii_lowercase}
+use Rattle.std.specs.Int.{bit_at}
 use Rattle.np_code_points.specs.Forms.{is_compat}
 use Rattle.np_code_points.specs.declared.forms.Form.{Form}
 use Rattle.np_forms.specs.Assigned.{IsAssigned}
 use Rattle.np_forms.specs.inside.NormalForms.{normal_form}
 use Rattle.np_forms.specs.inside.Readings.{IsRead}
-use Rattle.np_caseless.specs.Conditions.{IsSoundFolding}
 use Rattle.np_caseless.specs.Folded.{FoldedVersion}
 use Rattle.np_caseless.specs.SimpleKeys.{AddsNoControl}
 use Rattle.np_caseless.specs.inside.Images.{AreImages}
 use Rattle.np_caseless.specs.inside.ImageTables.{IsMarked}
-use Rattle.np_caseless.specs.inside.SimpleImages.{AreSimple, IsCodeAt, bytes_of, listed}
+use Rattle.np_caseless.specs.inside.SimpleImages.{bytes_of, listed}
 use Rattle.np_caseless.specs.declared.simple_images.SimpleImage.{SimpleImage}
 use Rattle.np_caseless.specs.declared.simple_texts.KnownImages.{KnownImages}
 
@@ -29,12 +30,31 @@ pub record IsKept (own : List ℕ) (code : ℕ) (piece : List ℕ) : Type 0 wher
   pub marked : IsMarked own code
   pub bytes : piece ≡ encode_utf8 code
 
--- what stands for the character at a place was written there; where it is told to stand apart, that is its simple image
-pub record IsCodeWritten (known : KnownImages) (text : List ℕ) (at count code : ℕ) (apart : Bool) (before after : List ℕ) : Type 0 where
-  pub here : IsCodeAt text at count code
-  pub piece : List ℕ
-  pub written : take (at + count) after ≡ take at before ++ piece
-  pub is : IsKnownImage known.simple.now code count piece ⊎ ((apart ≡ false) × IsKept known.own.now code piece)
+-- bytes stand for a code point, and are as many; where they are told to stand apart, they are its simple image
+pub record IsStandIn (known : KnownImages) (apart : Bool) (code : ℕ) (piece : List ℕ) : Type 0 where
+  pub size : length piece ≡ length (encode_utf8 code)
+  pub is : IsKnownImage known.simple.now code (length (encode_utf8 code)) piece ⊎ ((apart ≡ false) × IsKept known.own.now code piece)
+
+-- bytes stand for code points, one behind the other
+abbrev pub AreStandIns : KnownImages → Bool → List ℕ → List ℕ → Type 0
+AreStandIns known apart [] made = made ≡ []
+AreStandIns known apart (code ∷ codes) made =
+    (piece : List ℕ) × (later : List ℕ) × (made ≡ piece ++ later) × IsStandIn known apart code piece × AreStandIns known apart codes later
+
+-- up to a place the room has what stands for the code points of a text, and behind it the bytes of the text, with the lowercases of ASCII
+pub record AreMade (known : KnownImages) (text room : List ℕ) (at : ℕ) (apart : Bool) : Type 0 where
+  pub within : at ≤ length text
+  pub size : length room ≡ length text
+  pub behind : drop at room ≡ map to_ascii_lowercase (drop at text)
+  pub read : List ℕ
+  pub reads : IsRead text (drop at text) read
+  pub made : AreStandIns known apart read (take at room)
+
+-- of the bytes of a text from one place on up to another those have a bit that begin characters of several bytes
+pub record AreLeads (text : List ℕ) (from to bits : ℕ) : Type 0 where
+  pub set : (k : ℕ) → bit_at bits k ≡ 1 → 192 ≤ get_or text (from + k) 0
+  pub before : (k : ℕ) → bit_at bits k ≡ 1 → from + k < to
+  pub clear : (k : ℕ) → bit_at bits k ≡ 0 → from + k < to → get_or text (from + k) 0 < 192
 
 -- bytes are those that stand for what was read of a text; where they are told to stand apart, they are assigned and their own form
 pub record IsMadeOfFront (v : FoldedVersion) (form : Form) (apart : Bool) (text rest made : List ℕ) : Type 0 where
@@ -47,11 +67,3 @@ pub record IsMadeOfFront (v : FoldedVersion) (form : Form) (apart : Bool) (text 
   pub own : apart ≡ true → normal_form v.version form ys ≡ ys
   pub assigned : apart ≡ true → IsAssigned v.version ys
   pub ends : AddsNoControl (encode_utf8_all read) made
-
--- what was made of the front of a text up to one place was gone on with up to another, by what stands apart where that is told
-pub record GoesOn (known : KnownImages) (text : List ℕ) (from to : ℕ) (apart : Bool) (before after : List ℕ) : Type 0 where
-  pub within : to ≤ length text
-  pub utf8 : IsUtf8 (drop to text)
-  pub made :
-      (v : FoldedVersion) (form : Form) (front : Bool) → IsSoundFolding v → AreSimple v form known.simple.now → AreOwn v (is_compat form) known.own.now
-      → IsMadeOfFront v form front text (drop from text) (take from before) → IsMadeOfFront v form (front && apart) text (drop to text) (take to after)

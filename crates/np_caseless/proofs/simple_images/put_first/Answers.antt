@@ -8,8 +8,7 @@ loop-code-preserved g c =
       | in-Some w ↦
           rw w.list-is (
             w.put.ensures.length ∙ c.loop-code.invariant.0,
-            λ none. w.put.ensures.controls (c.loop-code.invariant.1 none),
-            λ v same all done. w.put.ensures.simple v same all (c.loop-code.invariant.2 v same all done),
+            λ v same all done. w.put.ensures.simple v same all (c.loop-code.invariant.1 v same all done),
           )
       | in_default w ↦ rw w.list-is c.loop-code.invariant
     ]

@@ -1,8 +1,8 @@
 use Rattle.std.proofs.Common.{◌≡◌, ◌∙◌, ◌++◌, ◌-◌, drop, length, replicate, sym, ap, ap₂, subst, take, arith}
 use Rattle.std.proofs.Math.Seq.{take-nil}
 use Rattle.std.proofs.lemmas.List.{length-replicate, take_at}
-use Rattle.np_caseless.specs.inside.SimpleImages.{AreOfForm, AreSimple, HaveNoControls}
-use Rattle.np_caseless.proofs.SimpleLemmas.{controls_none, simple_none}
+use Rattle.np_caseless.specs.inside.SimpleImages.{AreOfForm, AreSimple}
+use Rattle.np_caseless.proofs.SimpleLemmas.{simple_none}
 use Rattle.np_caseless.proofs.simple_images.simple_images.Goals as goal
 
 pub returns : goal.returns
@@ -18,6 +18,5 @@ returns g c = λ v same all.
     ∙ c.in_ok-resize.ensures.items
     ∙ ap₂ (λ a b. a ++ b) (ap (take 0x3000) c.new-list.ensures.items ∙ take-nil 0x3000) (ap (λ n. replicate (0x3000 - n) none) c.new-list.ensures.len) in
     let simple = c.put_all.ensures.simple v same all (subst (AreSimple v form) (sym given) (simple_none v form 0x3000 none c.unknown.ensures)) in
-    let controls = c.put_all.ensures.controls (subst HaveNoControls (sym given) (controls_none 0x3000 none (omega arith) c.unknown.ensures)) in
     subst (AreOfForm v form) (sym is)
-    (record { size = c.put_all.ensures.length ∙ ap length given ∙ length-replicate 0x3000 none; simple = simple; controls = controls })
+    (record { size = c.put_all.ensures.length ∙ ap length given ∙ length-replicate 0x3000 none; simple = simple })

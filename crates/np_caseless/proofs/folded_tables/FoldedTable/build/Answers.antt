@@ -13,6 +13,6 @@ invariant_of-result g c =
       sound_where v c.args.lowercases.now c.in_ok-mapped.ensures.faultless c.meets_conditions.ensures c.are_in_order.ensures,
       record { canonically = canonical; compatibly = compatible },
       c.in_ok-ascii.ensures,
-      c.lower-lowers.ensures,
-      c.in_ok-simple.ensures v refl canonical compatible,
+      c.in_ok-simple.ensures.images v refl canonical compatible,
+      c.in_ok-simple.ensures.lowers,
     )

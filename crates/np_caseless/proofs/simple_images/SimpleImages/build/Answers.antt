@@ -1,9 +1,9 @@
 use Rattle.np_caseless.proofs.simple_images.SimpleImages.build.Goals as goal
 
-pub returns : goal.returns
-returns g c = λ v same canonical compatible. record {
-  nfd = c.in_ok-simple_images.ensures v same canonical;
-  nfc = c.in_ok-simple_images-2.ensures v same canonical;
-  nfkd = c.in_ok-simple_images-3.ensures v same compatible;
-  nfkc = c.in_ok-simple_images-4.ensures v same compatible;
+pub returns-clause-images : goal.returns-clause-images
+returns-clause-images g c = λ v same canonical compatible. record {
+  nfd = c.in_ok-nfd.ensures v same canonical;
+  nfc = c.in_ok-nfc.ensures v same canonical;
+  nfkd = c.in_ok-nfkd.ensures v same compatible;
+  nfkc = c.in_ok-nfkc.ensures v same compatible;
 }
