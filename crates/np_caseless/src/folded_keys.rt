@@ -56,6 +56,7 @@ impl<T: NormTable + Drop> FoldedTable<T> {
         ensures boundary { IsCharBoundary text.now result }
         ensures keys { IsEachPartKey self.now wanted (take result text.now) room.new }
     {
+        self.meets_conditions();
         0
     }
 
