@@ -1,5 +1,6 @@
 -- The answer to a line whose key stands at the line's own place.
-use Rattle.std.proofs.Common.{◌≡◌, ℕ, ◌-◌, ◌<◌, ◌≤◌, List, [], ◌∷◌, ◌++◌, chars, drop, length, length-append, take, IsUtf8, refl, sym, ap, ap₂, subst, ◌∙◌, inl, inr, arith}
+use Rattle.std.proofs.Common.{◌≡◌, ℕ, ◌-◌, ◌<◌, ◌≤◌, List, [], ◌∷◌, ◌++◌, chars, drop, length, length-append, take, IsUtf8}
+use Rattle.std.proofs.Common.{refl, sym, ap, ap₂, subst, ◌∙◌, inl, inr, arith}
 use Rattle.std.proofs.lemmas.Str.{encodes-chars}
 use Rattle.np_caseless.specs.Caseless.{IsCaseless}
 use Rattle.np_caseless.specs.Folded.{FoldedVersion}
@@ -44,4 +45,5 @@ module _ (v : FoldedVersion) (form : Form) (end : LineEnd) where
       let same : length before ≡ place = omega (arith, at, ap length p.split, sizes) in
       let told : IsSimpleKey v form line key = subst (IsSimpleKey v form line) (ap₂ (λ m k. take m (drop k keys)) (sym long) same) here in
       let fits : length line ≤ 65536 = omega (arith, short, ap length p.split, sizes, ap length is, length-append line (byte_of end ∷ behind)) in
-      pushed-key (IsAnswerBy (IsCaseless v form) v.version end) end front rest line behind key old mid new p is free (simple_answer line key of_line fits free told) out
+      let answer = simple_answer line key of_line fits free told in
+      pushed-key (IsAnswerBy (IsCaseless v form) v.version end) end front rest line behind key old mid new p is free answer out

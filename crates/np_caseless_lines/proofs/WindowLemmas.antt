@@ -1,5 +1,6 @@
 -- A text that is answered front by front.
-use Rattle.std.proofs.Common.{◌≡◌, ℕ, ◌-◌, ◌≤◌, ◌||◌, List, [], ◌∷◌, ◌++◌, append_assoc, drop, length, length-append, take, IsUtf8, sym, ap, ap₂, subst, ◌∙◌, arith}
+use Rattle.std.proofs.Common.{◌≡◌, ℕ, ◌-◌, ◌≤◌, ◌||◌, List, [], ◌∷◌, ◌++◌, append_assoc, drop, length, length-append, take, IsUtf8}
+use Rattle.std.proofs.Common.{sym, ap, ap₂, subst, ◌∙◌, arith}
 use Rattle.std.proofs.lemmas.List.{drop_at, take-append-drop}
 use Rattle.std.proofs.lemmas.List.Concat.{flat_map-append}
 use Rattle.std.proofs.lemmas.List.Elements.{All-append}
@@ -19,7 +20,8 @@ use Rattle.np_lines.specs.declared.lines.LineEnd.{LineEnd}
 use Rattle.np_lines.proofs.PushedLemmas.{pushed-part}
 use Rattle.np_caseless_lines.specs.inside.Answered.{AreAnswered}
 
-both_zipped : {A B : Type 0} (R : A → B → Type 0) (xs : List A) (ys : List B) (us : List A) (ws : List B) → AllZip R xs ys → AllZip R us ws → AllZip R (xs ++ us) (ys ++ ws)
+both_zipped : {A B : Type 0} (R : A → B → Type 0) (xs : List A) (ys : List B) (us : List A) (ws : List B) → AllZip R xs ys
+    → AllZip R us ws → AllZip R (xs ++ us) (ys ++ ws)
 both_zipped R [] [] us ws h k = k
 both_zipped R [] (y ∷ ys) us ws h k = absurd h
 both_zipped R (x ∷ xs) [] us ws h k = absurd h
@@ -27,9 +29,11 @@ both_zipped R (x ∷ xs) (y ∷ ys) us ws h k = (h.0, both_zipped R xs ys us ws 
 
 module _ (Is : List ℕ → List ℕ → Type 0) (end : LineEnd) where
   -- lines that are answered one behind the other
-  pushed_both : (text rest later old mid new : List ℕ) → ArePushed Is end text rest old mid → ArePushed Is end rest later mid new → ArePushed Is end text later old new
+  pushed_both : (text rest later old mid new : List ℕ) → ArePushed Is end text rest old mid → ArePushed Is end rest later mid new
+      → ArePushed Is end text later old new
   pushed_both text rest later old mid new p q =
-      let joined : (xs ys : List (List ℕ)) → ended end (xs ++ ys) ≡ ended end xs ++ ended end ys = λ xs ys. flat_map-append (λ (line : List ℕ). line ++ byte_of end ∷ []) xs ys in
+      let joined : (xs ys : List (List ℕ)) → ended end (xs ++ ys) ≡ ended end xs ++ ended end ys =
+      λ xs ys. flat_map-append (λ (line : List ℕ). line ++ byte_of end ∷ []) xs ys in
       record {
         lines = p.lines ++ q.lines;
         split =
@@ -70,7 +74,8 @@ module _ (v : FoldedVersion) (form : Form) (end : LineEnd) (text front behind le
 
   pub left_answered : (rest : List ℕ) → rest ≡ drop (length front - length left) text → AreAnswered v form end text rest old new
   left_answered rest is =
-      let same : left ++ behind ≡ rest = sym (is ∙ ap (drop (length front - length left)) whole ∙ drop_at done (left ++ behind) (length front - length left) size) in
+      let n = length front - length left in
+      let same : left ++ behind ≡ rest = sym (is ∙ ap (drop n) whole ∙ drop_at done (left ++ behind) n size) in
       pushed-part (IsAnswerBy (IsCaseless v form) v.version end) end front left rest old new p text (whole ∙ ap (λ l. done ++ l) same)
 
   -- behind those that were answered before
