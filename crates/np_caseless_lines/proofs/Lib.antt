@@ -1,3 +1,2 @@
-pub mod AsciiLemmas
-pub mod OwnLineLemmas
-pub mod SimpleLineLemmas
+pub mod LineLemmas
+pub mod WindowLemmas

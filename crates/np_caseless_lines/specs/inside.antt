@@ -1,2 +1,1 @@
-pub mod Unfolded
-pub mod Written
+pub mod Answered

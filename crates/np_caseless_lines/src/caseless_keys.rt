@@ -4,12 +4,11 @@ ghost use Rattle.np_caseless.specs.Caseless.{IsCaseless};
 ghost use Rattle.np_lines.specs.Answers.{IsAnswerBy};
 ghost use Rattle.np_lines.specs.Pushed.{ArePushed};
 
-use crate::ascii::{push_ascii, push_lowered};
 use crate::simple_lines::push_simple;
 use np_caseless::FoldedTable;
 use np_code_points::{Form, Memory};
 use np_forms::NpssFault;
-use np_lines::{LineEnd, LineKeys};
+use np_lines::{LineEnd, LineKeys, Wanted};
 use np_versions::NormTable;
 use std::alloc::Global;
 use std::borrow::CowStr;
@@ -19,28 +18,6 @@ use std::borrow::CowStr;
 pub struct CaselessKeys<'t, T: NormTable + Drop> {
     pub folded: &'t FoldedTable<T>,
     pub form: Form,
-}
-
-impl<'t, T: NormTable + Drop> CaselessKeys<'t, T> {
-    /// Answers the lines of ASCII at the front of a text, of which each byte is folded by itself.
-    fn push_bytes<'a>(
-        &self,
-        end: LineEnd,
-        text: &'a str,
-        out: &mut Vec<u8>,
-    ) -> Result<&'a str, Memory>
-        ensures { IfOk result (λ rest. ArePushed (IsAnswerBy (IsCaseless self.now.folded.now self.now.form) self.now.folded.now.version end) end
-            text.now rest.now out.old.items out.new.items) }
-    {
-        self.folded.meets_conditions();
-        if let Some(bytes) = self.folded.lowered_ascii() {
-            return push_lowered(bytes, end, text, out);
-        }
-        match self.folded.ascii() {
-            Some(bytes) => push_ascii(bytes, end, text, out),
-            None => Ok(text),
-        }
-    }
 }
 
 impl<'t, T: NormTable + Drop> LineKeys for CaselessKeys<'t, T> {
@@ -63,15 +40,17 @@ impl<'t, T: NormTable + Drop> LineKeys for CaselessKeys<'t, T> {
         Ok(text)
     }
 
-    /// Answers the lines of ASCII at the front of a text, of which each byte is folded by itself, and then those of which each
-    /// code point is, or none folds.
+    /// Answers the lines at the front of a text that are short and whose keys are made code point by code point.
     fn push_front<'a>(
         &self,
         end: LineEnd,
         text: &'a str,
         out: &mut Vec<u8>,
     ) -> Result<&'a str, Memory> {
-        let rest = self.push_bytes(end, text, out)?;
-        push_simple(self.folded, self.form, end, rest, out)
+        let wanted = Wanted {
+            form: self.form,
+            end,
+        };
+        push_simple(self.folded, wanted, text, out)
     }
 }

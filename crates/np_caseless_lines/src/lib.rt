@@ -7,7 +7,6 @@
 //! ```
 #![tactic(auto)]
 
-mod ascii;
 mod caseless_keys;
 pub mod laws;
 mod simple_lines;

@@ -1,220 +1,118 @@
-//! Lines of which each code point has an image that is as long: their keys are written where the answers stand, one by one. And
-//! lines that are their own keys: these are told of many lines at once.
-ghost use Rattle.std.specs.Prelude.{◌≡◌, [], ◌*◌, ◌≤◌, ◌<◌, chars, length, take, IfOk, IfSome, IsUtf8};
+//! Lines whose caseless keys are told code point by code point, and have as many bytes as they have. The keys of all parts of a
+//! front are written at once; then each line is cut off the front, and its key stands at its own place.
+ghost use Rattle.std.specs.Prelude.{◌≡◌, ◌++◌, ◌∷◌, [], ◌≤◌, length, IfOk, IsUtf8, OnOk};
 ghost use Rattle.np_caseless.specs.Folded.{FoldedVersion};
-ghost use Rattle.np_caseless.specs.SimpleKeys.{IsEachPartOwnKey};
-ghost use Rattle.np_caseless_lines.specs.inside.Written.{AreAnswered, IsLineWritten};
+ghost use Rattle.np_caseless.specs.SimpleKeys.{IsEachPartKey};
+ghost use Rattle.np_caseless_lines.specs.inside.Answered.{AreAnswered};
+ghost use Rattle.np_code_points.specs.declared.forms.Form.{Form};
+ghost use Rattle.np_lines.specs.Answers.{told_key};
+ghost use Rattle.np_lines.specs.Lines.{byte_of};
 
-use crate::ascii::push_unfolded;
 use np_caseless::FoldedTable;
-use np_code_points::{Form, Memory};
-use np_lines::{LIMIT, LineEnd, cut_line};
+use np_code_points::Memory;
+use np_lines::{LineEnd, Wanted, cut_line};
 use np_versions::NormTable;
 
-/// How many bytes of a text are answered at once, at most: there is room for the answers of so many.
-const WINDOW: usize = 1000;
-
-/// How many bytes of a text are looked at for lines that are their own keys before such a line was found, at most.
+/// How many bytes of a text are looked at at once at first, at most.
 const FIRST: usize = 125;
 
-/// How many are looked at in the end, at most. The quick check of a short text takes more for each code point.
-const LAST: usize = 16000;
+/// How many in the end, at most.
+const LAST: usize = 1000;
 
-/// What was answered of a text.
+/// What is known of a window of a text once its lines were answered.
 #[derive(Clone, Copy)]
-struct WrittenLines<'a> {
+struct AnsweredWindow<'a> {
     /// What is left of it.
-    rest: &'a str,
-    /// How many bytes of answers there are.
-    count: usize,
+    left: &'a str,
+    /// Whether all of its keys were made. If so, only the end of its last line is missing.
+    is_made: bool,
 }
 
-/// Writes `=`, the key of the first line of a text and what ends it to the front of the room, where the key is made code point by
-/// code point; answers how many bytes the line has.
+/// Appends `=`, a key and what ends its line.
 #[inline(always)]
-fn write_line<T: NormTable + Drop>(
-    folded: &FoldedTable<T>,
-    form: Form,
-    end: LineEnd,
-    text: &str,
-    room: &mut [u8],
-) -> Option<usize>
-    requires { length text.now < length room.now }
-    ensures length { length room.new ≡ length room.old }
-    ensures written { IfSome result (λ n. IsLineWritten folded.now form end text.now n room.new) }
+fn push_key(key: &[u8], end: LineEnd, out: &mut Vec<u8>) -> Result<(), Memory>
+    ensures { OnOk result (out.new.items ≡ out.old.items ++ (told_key key.now ++ byte_of end ∷ [])) }
 {
-    let (mark, behind) = room.split_at_mut(1);
-    mark[0] = b'=';
-    let count = folded.write_key_before(form, end.byte(), text, behind)?;
-    if count >= text.len() || count > LIMIT {
-        return None;
-    }
-    behind[count] = end.byte();
-    Some(count)
+    out.push(b'=')?;
+    out.extend_from_slice(key)?;
+    out.push(end.byte())?;
+    Ok(())
 }
 
-/// Writes the answers to the lines at the front of a text whose keys are made so to the front of the room.
-fn write_lines<'a, T: NormTable + Drop>(
-    folded: &FoldedTable<T>,
-    form: Form,
+/// Appends the answers to the lines that end in the front of a text, of which each part has its key at its place, and answers
+/// what follows them there.
+fn push_each<'a>(
     end: LineEnd,
-    text: &'a str,
-    room: &mut [u8],
-) -> WrittenLines<'a>
-    requires { 2 * length text.now ≤ length room.now }
-    ensures length { length room.new ≡ length room.old }
-    ensures within { result.count ≤ length room.new }
-    ensures pushed { AreAnswered folded.now form end text.now result.rest.now [] (take result.count room.new) }
-    ensures utf8 { IsUtf8 result.rest.now }
-{
-    let mut written = WrittenLines {
-        rest: text,
-        count: 0,
-    };
-    'lines: while !written.rest.is_empty() {
-        let (_front, behind) = room.split_at_mut(written.count);
-        let Some(count) = write_line(folded, form, end, written.rest, behind) else {
-            return written;
-        };
-        written.rest = &written.rest[count + 1..];
-        written.count += count + 2;
-    }
-    written
-}
-
-/// Appends the answers to the lines at the front of a window of a text whose keys are made so, and answers what is left of it.
-fn push_window<'a, T: NormTable + Drop>(
-    folded: &FoldedTable<T>,
-    form: Form,
-    end: LineEnd,
-    window: &'a str,
+    front: &'a str,
+    keys: &[u8],
     out: &mut Vec<u8>,
 ) -> Result<&'a str, Memory>
-    requires { length window.now ≤ 1000 }
-    ensures pushed { IfOk result (λ rest. AreAnswered folded.now form end window.now rest.now out.old.items out.new.items) }
+    requires short { length front.now ≤ 1000 }
+    requires keys { length front.now ≤ length keys.now }
+    ensures pushed { IfOk result (λ rest. (v : FoldedVersion) (form : Form) → IsEachPartKey v form front.now keys.now →
+        AreAnswered v form end front.now rest.now out.old.items out.new.items) }
     ensures utf8 { IfOk result (λ rest. IsUtf8 rest.now) }
 {
-    let from = out.len();
-    out.resize(from + 2 * window.len(), 0)?;
-    let (_front, room) = out.as_mut_slice().split_at_mut(from);
-    let written = write_lines(folded, form, end, window, room);
-    let count = written.count;
-    out.truncate(from + count);
-    Ok(written.rest)
-}
-
-/// Appends the answers to some lines at the front of a text whose keys are made so, and answers what is left of it: the text
-/// where its first line's key isn't made so, or the line isn't short.
-fn push_made<'a, T: NormTable + Drop>(
-    folded: &FoldedTable<T>,
-    form: Form,
-    end: LineEnd,
-    text: &'a str,
-    out: &mut Vec<u8>,
-) -> Result<&'a str, Memory>
-    ensures pushed { IfOk result (λ rest. AreAnswered folded.now form end text.now rest.now out.old.items out.new.items) }
-    ensures utf8 { IfOk result (λ rest. IsUtf8 rest.now) }
-{
-    let (window, _behind) = text.split_at(text.floor_char_boundary(WINDOW));
-    let left = push_window(folded, form, end, window, out)?;
-    Ok(&text[window.len() - left.len()..])
-}
-
-/// Appends the answers to the lines that end in a text of which each part is its own caseless key, and answers what follows them.
-fn push_each<'a>(end: LineEnd, own: &'a str, out: &mut Vec<u8>) -> Result<&'a str, Memory>
-    requires { length own.now ≤ 16000 }
-    ensures pushed { IfOk result (λ rest. (v : FoldedVersion) (form : Form) → IsEachPartOwnKey v form (chars own.now) →
-        AreAnswered v form end own.now rest.now out.old.items out.new.items) }
-    ensures utf8 { IfOk result (λ rest. IsUtf8 rest.now) }
-{
-    let mut rest = own;
+    let mut rest = front;
     'lines: loop {
         let Some((line, behind)) = cut_line(rest, end) else {
             return Ok(rest);
         };
-        push_unfolded(out, line.as_bytes(), end)?;
+        let place = front.len() - rest.len();
+        push_key(&keys[place..place + line.len()], end, out)?;
         rest = behind;
     }
 }
 
-/// Appends the answers to the lines at the front of a window of a text that are their own keys, and answers what is left of it.
-fn push_own_window<'a, T: NormTable + Drop>(
+/// Appends the answers to the lines at the front of a window of a text whose keys are made so, for which the room serves.
+fn push_window<'a, T: NormTable + Drop>(
     folded: &FoldedTable<T>,
-    form: Form,
-    end: LineEnd,
+    wanted: Wanted,
     window: &'a str,
+    room: &mut [u8],
     out: &mut Vec<u8>,
-) -> Result<&'a str, Memory>
-    requires { length window.now ≤ 16000 }
-    ensures pushed { IfOk result (λ rest. AreAnswered folded.now form end window.now rest.now out.old.items out.new.items) }
-    ensures utf8 { IfOk result (λ rest. IsUtf8 rest.now) }
+) -> Result<AnsweredWindow<'a>, Memory>
+    requires short { length window.now ≤ 1000 }
+    requires room { length window.now ≡ length room.now }
+    ensures length { length room.new ≡ length room.old }
+    ensures pushed { IfOk result (λ w. AreAnswered folded.now wanted.form wanted.end window.now w.left.now out.old.items out.new.items) }
+    ensures utf8 { IfOk result (λ w. IsUtf8 w.left.now) }
 {
-    let (own, _behind) = window.split_at(folded.own_key_span(form, window));
-    let left = push_each(end, own, out)?;
-    Ok(&window[own.len() - left.len()..])
+    let count = folded.write_keys(wanted.form, window, room);
+    let (front, _behind) = window.split_at(count);
+    let left = push_each(wanted.end, front, room, out)?;
+    Ok(AnsweredWindow {
+        left: &window[front.len() - left.len()..],
+        is_made: count == window.len(),
+    })
 }
 
-/// Appends the answers to the lines at the front of a text that are their own keys, and answers what is left of it: the text where
-/// its first line isn't, or isn't short. Little is looked at until a line was answered, and then ever more.
-fn push_own<'a, T: NormTable + Drop>(
+/// Answers the lines at the front of a text whose keys are made so, and answers what is left of it: all from the first line that
+/// isn't short or whose key isn't made. Little is looked at until a line was answered, and then ever more.
+pub(crate) fn push_simple<'a, T: NormTable + Drop>(
     folded: &FoldedTable<T>,
-    form: Form,
-    end: LineEnd,
+    wanted: Wanted,
     text: &'a str,
     out: &mut Vec<u8>,
 ) -> Result<&'a str, Memory>
-    ensures pushed { IfOk result (λ rest. AreAnswered folded.now form end text.now rest.now out.old.items out.new.items) }
-    ensures utf8 { IfOk result (λ rest. IsUtf8 rest.now) }
+    ensures { IfOk result (λ rest. AreAnswered folded.now wanted.form wanted.end text.now rest.now out.old.items out.new.items) }
 {
+    let mut room = [0; LAST];
     let mut rest = text;
     let mut most = FIRST;
     'windows: loop {
         let (window, _behind) = rest.split_at(rest.floor_char_boundary(most));
-        let left = push_own_window(folded, form, end, window, out)?;
-        let behind = &rest[window.len() - left.len()..];
-        if behind.len() >= rest.len() {
-            return Ok(behind);
+        let size = window.len();
+        let answered = push_window(folded, wanted, window, &mut room[..size], out)?;
+        let done = size - answered.left.len();
+        let is_cut = size < rest.len();
+        rest = &rest[done..];
+        if done > 0 {
+            most = LAST.min(2 * most);
+        } else if answered.is_made && is_cut && most < LAST {
+            most = LAST;
+        } else {
+            return Ok(rest);
         }
-        rest = behind;
-        most = LAST.min(2 * most);
-    }
-}
-
-/// Appends the answers to some lines at the front of a text by either way, and answers what is left of it.
-fn push_some<'a, T: NormTable + Drop>(
-    folded: &FoldedTable<T>,
-    form: Form,
-    end: LineEnd,
-    text: &'a str,
-    out: &mut Vec<u8>,
-) -> Result<&'a str, Memory>
-    ensures pushed { IfOk result (λ rest. AreAnswered folded.now form end text.now rest.now out.old.items out.new.items) }
-    ensures utf8 { IfOk result (λ rest. IsUtf8 rest.now) }
-{
-    let rest = push_own(folded, form, end, text, out)?;
-    if rest.len() < text.len() {
-        return Ok(rest);
-    }
-    Ok(push_made(folded, form, end, rest, out)?)
-}
-
-/// Answers the lines at the front of a text whose keys are made code point by code point, or are the lines, and answers what is
-/// left of it.
-pub(crate) fn push_simple<'a, T: NormTable + Drop>(
-    folded: &FoldedTable<T>,
-    form: Form,
-    end: LineEnd,
-    text: &'a str,
-    out: &mut Vec<u8>,
-) -> Result<&'a str, Memory>
-    ensures { IfOk result (λ rest. AreAnswered folded.now form end text.now rest.now out.old.items out.new.items) }
-{
-    let mut rest = text;
-    'lines: loop {
-        let behind = push_some(folded, form, end, rest, out)?;
-        if behind.len() >= rest.len() {
-            return Ok(behind);
-        }
-        rest = behind;
     }
 }
