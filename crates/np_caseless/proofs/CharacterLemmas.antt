@@ -8,7 +8,8 @@ use Rattle.np_versions.proofs.Utf8Lemmas.{BeginsWith, begins_with_three, begins_
 use Rattle.np_caseless.specs.inside.SimpleImages.{IsCodeAt}
 
 -- three bytes of one number
-pub unpacked : (x y z n : ℕ) → x < 256 → y < 256 → z < 256 → n ≡ 0x1000000 + x + 256 * y + 65536 * z → n % 256 ∷ n / 256 % 256 ∷ n / 65536 % 256 ∷ [] ≡ x ∷ y ∷ z ∷ []
+pub unpacked : (x y z n : ℕ) → x < 256 → y < 256 → z < 256 → n ≡ 0x1000000 + x + 256 * y + 65536 * z
+    → n % 256 ∷ n / 256 % 256 ∷ n / 65536 % 256 ∷ [] ≡ x ∷ y ∷ z ∷ []
 unpacked x y z n first second third is =
     let one : n % 256 ≡ x = omega (arith, is, first, second, third) in
     let two : n / 256 % 256 ≡ y = omega (arith, is, first, second, third) in
@@ -174,7 +175,8 @@ module _ (room : List ℕ) (at x y z : ℕ) where
       ∙ ap (λ l. l ++ y ∷ []) (put_one (omega (arith, fits)))
       ∙ append_assoc (take at room) (x ∷ []) (y ∷ [])
 
-  pub put_three : at + 3 ≤ length room → take (at + 3) (slice_set (slice_set (slice_set room at x) (at + 1) y) (at + 2) z) ≡ take at room ++ x ∷ y ∷ z ∷ []
+  pub put_three : at + 3 ≤ length room
+      → take (at + 3) (slice_set (slice_set (slice_set room at x) (at + 1) y) (at + 2) z) ≡ take at room ++ x ∷ y ∷ z ∷ []
   put_three fits =
       let two = slice_set (slice_set room at x) (at + 1) y in
       let next : at + 3 ≡ at + 2 + 1 = omega arith in
@@ -229,11 +231,11 @@ lower_encoded c high =
     (λ low e. absurd (omega (arith, low, high)))
     (λ x y a b _ e. ap (map to_ascii_lowercase) e ∙ ap₂ (λ p q. p ∷ q ∷ []) (same x a) (same y b) ∙ sym e)
     (λ x y z a b d _ e.
-        ap (map to_ascii_lowercase) e ∙ ap₂ (λ p l. p ∷ l) (same x a) (ap₂ (λ p q. p ∷ q ∷ []) (same y b) (same z d)) ∙ sym e)
+    ap (map to_ascii_lowercase) e ∙ ap₂ (λ p l. p ∷ l) (same x a) (ap₂ (λ p q. p ∷ q ∷ []) (same y b) (same z d)) ∙ sym e)
     (λ x y z w a b d f _ e.
-        ap (map to_ascii_lowercase) e
-        ∙ ap₂ (λ p l. p ∷ l) (same x a) (ap₂ (λ p l. p ∷ l) (same y b) (ap₂ (λ p q. p ∷ q ∷ []) (same z d) (same w f)))
-        ∙ sym e)
+    ap (map to_ascii_lowercase) e
+    ∙ ap₂ (λ p l. p ∷ l) (same x a) (ap₂ (λ p l. p ∷ l) (same y b) (ap₂ (λ p q. p ∷ q ∷ []) (same z d) (same w f)))
+    ∙ sym e)
 
 pub encoded_most : (c : ℕ) → length (encode_utf8 c) ≤ 4
 encoded_most c =

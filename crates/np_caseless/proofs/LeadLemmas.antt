@@ -43,7 +43,8 @@ lane_leads bytes mask long is =
       set = λ k one.
           leb-true 192 (get_or bytes (0 + k) 0) (sym (lane k (inside k one)) ∙ one_set (get_or (map (λ x. leb 192 x) xs) k false) (sym (bit k) ∙ one));
       before = λ k one. omega (arith, inside k one);
-      clear = λ k zero lt. leb-false 192 (get_or bytes (0 + k) 0) (sym (lane k (omega (arith, lt))) ∙ none_set (get_or (map (λ x. leb 192 x) xs) k false) (sym (bit k) ∙ zero));
+      clear = λ k zero lt. leb-false 192 (get_or bytes (0 + k) 0)
+          (sym (lane k (omega (arith, lt))) ∙ none_set (get_or (map (λ x. leb 192 x) xs) k false) (sym (bit k) ∙ zero));
     }
 
 -- those of lanes that have the bytes of a text from a place on

@@ -81,7 +81,8 @@ module _ (known : KnownImages) (text : List ℕ) where
 
   -- its image
   pub made_image : (at count code : ℕ) (apart : Bool) (before after : List ℕ) → IsCodeAt text at count code → code < length known.simple.now
-      → length known.simple.now ≡ 0x3000 → (listed known.simple.now code).bytes ≢ 0 → take (at + count) after ≡ take at before ++ bytes_of count (listed known.simple.now code)
+      → length known.simple.now ≡ 0x3000 → (listed known.simple.now code).bytes ≢ 0
+      → take (at + count) after ≡ take at before ++ bytes_of count (listed known.simple.now code)
       → drop (at + count) after ≡ drop (at + count) before → length after ≡ length before
       → AreMade known text before at apart → AreMade known text after (at + count) (apart && true)
   made_image at count code apart before after here within size is_known written behind same m =
@@ -125,7 +126,8 @@ module _ (known : KnownImages) (text : List ℕ) where
         ] in
         let here : IsCodeAt text at 1 b = one_at text at m.reads.utf8 within ascii in
         let there : get_or room at 0 ≡ to_ascii_lowercase b =
-        ap (λ n. get_or room n 0) (omega arith) ∙ sym (get_or-drop at room 0 0) ∙ ap (λ l. get_or l 0 0) (m.behind ∙ ap (map to_ascii_lowercase) (drop_more text at 0 within)) in
+        ap (λ n. get_or room n 0) (omega arith) ∙ sym (get_or-drop at room 0 0)
+        ∙ ap (λ l. get_or l 0 0) (m.behind ∙ ap (map to_ascii_lowercase) (drop_more text at 0 within)) in
         let image = listed known.simple.now b in
         let is = lowers b ascii in
         let small = lowercase_ascii b ascii in
@@ -141,7 +143,8 @@ module _ (known : KnownImages) (text : List ℕ) where
     made_bytes zero at apart room within low m = subst (λ k. AreMade known text room k apart) (omega arith) m
     made_bytes (suc n) at apart room within low m =
         let one = made_byte at apart room (omega (arith, within)) (subst (λ k. get_or text k 0 < 192) (omega arith) (low 0 (omega arith))) m in
-        let moved : (k : ℕ) → k < n → get_or text (at + 1 + k) 0 < 192 = λ k less. subst (λ i. get_or text i 0 < 192) (omega arith) (low (k + 1) (omega (arith, less))) in
+        let moved : (k : ℕ) → k < n → get_or text (at + 1 + k) 0 < 192 =
+        λ k less. subst (λ i. get_or text i 0 < 192) (omega arith) (low (k + 1) (omega (arith, less))) in
         subst (λ k. AreMade known text room k apart) (omega arith) (made_bytes n (at + 1) apart room (omega (arith, within)) moved one)
 
     -- those up to the next that is marked to begin one

@@ -21,11 +21,13 @@ module _ (v : FoldedVersion) (sound : IsSoundFolding v) (form : Form) (known : K
   -- what stands in for the code points of a text was made of it
   whole_made : (apart : Bool) (text made : List ℕ) → IsUtf8 text → AreStandIns known apart (chars text) made → IsMadeOfFront v form apart text [] made
   whole_made apart text made utf8 all =
-      simple_all v sound form known apart text text [] [] made (chars text) simple own all utf8 (sym (append-nil (encode_utf8_all (chars text)) ∙ encodes-chars text utf8))
+      simple_all v sound form known apart text text [] [] made (chars text) simple own all utf8
+      (sym (append-nil (encode_utf8_all (chars text)) ∙ encodes-chars text utf8))
       (simple_start v sound form apart text utf8)
 
   -- which is all of it
-  all_made : (apart : Bool) (text made : List ℕ) → IsMadeOfFront v form apart text [] made → IsMadeOfFront v form apart text (drop (length text) text) made
+  all_made : (apart : Bool) (text made : List ℕ) → IsMadeOfFront v form apart text [] made
+      → IsMadeOfFront v form apart text (drop (length text) text) made
   all_made apart text made m = subst (λ l. IsMadeOfFront v form apart text l made) (sym (drop-length text)) m
 
   -- A part of a front of a text.
@@ -53,7 +55,8 @@ module _ (v : FoldedVersion) (sound : IsSoundFolding v) (form : Form) (known : K
         ∙ ap (λ l. chars before ++ l) (chars-append part later of_part)
 
     halves : BothStandIn known apart (chars before) (chars part ++ chars later) (take count room)
-    halves = stand_split known apart (chars before) (chars part ++ chars later) (take count room) (subst (λ l. AreStandIns known apart l (take count room)) codes m.made)
+    halves = stand_split known apart (chars before) (chars part ++ chars later) (take count room)
+        (subst (λ l. AreStandIns known apart l (take count room)) codes m.made)
 
     parts : BothStandIn known apart (chars part) (chars later) halves.1
     parts = stand_split known apart (chars part) (chars later) halves.1 halves.4
@@ -104,7 +107,16 @@ module _ (v : FoldedVersion) (sound : IsSoundFolding v) (form : Form) (known : K
         → IsSimpleKey v form part (take (length part) (drop (length before) room))
     part_stable s above below each =
         let fits : length before + length part ≤ s =
-        omega (arith, above, inside, m.within, ap length is, length-append before (part ++ after), length-append part after, length-take-le n text (omega (arith, inside, m.within))) in
+        omega (
+          arith,
+          above,
+          inside,
+          m.within,
+          ap length is,
+          length-append before (part ++ after),
+          length-append part after,
+          length-take-le n text (omega (arith, inside, m.within)),
+        ) in
         let r = s - (length before + length part) in
         let rest = take r (drop (length part) (drop (length before) room)) in
         let total : s ≡ length before + (length part + r) = omega (arith, fits) in
@@ -122,8 +134,8 @@ module _ (v : FoldedVersion) (sound : IsSoundFolding v) (form : Form) (known : K
   each_apart text room count apart utf8 m t = λ before part after is of_before of_part.
       part_apart text room count apart utf8 m count (omega arith) before part after is of_before of_part t
 
-  pub each_stable : (text room : List ℕ) (count : ℕ) (apart : Bool) (n s : ℕ) → IsUtf8 text → AreMade known text room count apart → n ≤ s → s ≤ count
-      → IsEachPartStable v.version form (chars (take s room)) → IsEachPartKey v form (take n text) room
+  pub each_stable : (text room : List ℕ) (count : ℕ) (apart : Bool) (n s : ℕ) → IsUtf8 text → AreMade known text room count apart
+      → n ≤ s → s ≤ count → IsEachPartStable v.version form (chars (take s room)) → IsEachPartKey v form (take n text) room
   each_stable text room count apart n s utf8 m above below each = λ before part after is of_before of_part.
       part_stable text room count apart utf8 m n (omega (arith, above, below)) before part after is of_before of_part s above below each
 

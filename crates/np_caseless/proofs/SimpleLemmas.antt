@@ -94,9 +94,11 @@ module _ (v : FoldedVersion) (sound : IsSoundFolding v) (form : Form) where
       }
 
   -- what stands in for a code point
-  stands_in : (known : KnownImages) (apart : Bool) (code : ℕ) (piece : List ℕ) → AreSimple v form known.simple.now → AreOwn v (is_compat form) known.own.now
+  stands_in : (known : KnownImages) (apart : Bool) (code : ℕ) (piece : List ℕ) → AreSimple v form known.simple.now
+      → AreOwn v (is_compat form) known.own.now
       → IsUtf8 (encode_utf8 code) → IsStandIn known apart code piece
-      → IsUtf8 piece × AreImages v (is_compat form) (code ∷ []) (chars piece) × (apart ≡ true → IsApart v form piece) × AddsNoControl (encode_utf8 code) piece
+      → IsUtf8 piece × AreImages v (is_compat form) (code ∷ []) (chars piece)
+      × (apart ≡ true → IsApart v form piece) × AddsNoControl (encode_utf8 code) piece
   stands_in known apart code piece simple own utf8 s =
       elim s.is [
         | inl image ↦

@@ -6,7 +6,8 @@ use Rattle.np_caseless.specs.declared.simple_texts.KnownImages.{KnownImages}
 
 module _ (known : KnownImages) where
   -- what stands apart may be told not to
-  pub looser_one : (apart less : Bool) (code : ℕ) (piece : List ℕ) → (less ≡ true → apart ≡ true) → IsStandIn known apart code piece → IsStandIn known less code piece
+  pub looser_one : (apart less : Bool) (code : ℕ) (piece : List ℕ) → (less ≡ true → apart ≡ true) → IsStandIn known apart code piece
+      → IsStandIn known less code piece
   looser_one apart true code piece from s = record {
     size = s.size;
     is = elim s.is [ inl image ↦ inl image | inr kept ↦ let bad : true ≡ false = sym (from refl) ∙ kept.0 in absurd (cc) ];
@@ -16,7 +17,8 @@ module _ (known : KnownImages) where
     is = elim s.is [ inl image ↦ inl image | inr kept ↦ inr (refl, kept.1) ];
   }
 
-  pub looser : (apart less : Bool) (codes made : List ℕ) → (less ≡ true → apart ≡ true) → AreStandIns known apart codes made → AreStandIns known less codes made
+  pub looser : (apart less : Bool) (codes made : List ℕ) → (less ≡ true → apart ≡ true) → AreStandIns known apart codes made
+      → AreStandIns known less codes made
   looser apart less [] made from none = none
   looser apart less (code ∷ codes) made from all =
       (all.0, all.1, all.2, looser_one apart less code all.0 from all.3, looser apart less codes all.1 from all.4)

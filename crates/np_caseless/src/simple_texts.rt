@@ -130,12 +130,7 @@ fn make_at(known: KnownImages<'_>, text: &str, at: usize, room: &mut [u8]) -> Op
 
 /// Goes on with what stands for the code points of a text by those that begin in the next 64 bytes, as far as they are known.
 #[inline(always)]
-fn make_next(
-    known: KnownImages<'_>,
-    text: &str,
-    front: MadeFront,
-    room: &mut [u8],
-) -> MadeFront
+fn make_next(known: KnownImages<'_>, text: &str, front: MadeFront, room: &mut [u8]) -> MadeFront
     requires size { length known.simple.now ≡ 0x3000 }
     requires lowers { LowerAscii known.simple.now }
     requires made { AreMade known text.now room.now front.count front.apart }

@@ -24,4 +24,5 @@ returns-in_ok-char_at-clause-some c =
 pub returns-in_ok-char_at-clause-few : goal.returns-in_ok-char_at-clause-few
 returns-in_ok-char_at-clause-few c =
     let here = c.in_ok-char_at.field-0 in
-    if_some c.make-else-lead_byte-eq14.result (λ made is. omega (arith, is, encoded_most here.code, c.in_ok-char_at.ensures.here.size)) c.make-else-lead_byte-eq14.ensures.count
+    if_some c.make-else-lead_byte-eq14.result (λ made is. omega (arith, is, encoded_most here.code, c.in_ok-char_at.ensures.here.size))
+    c.make-else-lead_byte-eq14.ensures.count

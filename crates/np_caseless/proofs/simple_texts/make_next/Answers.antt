@@ -8,13 +8,14 @@ pub leads-init : goal.leads-init
 leads-init c =
     let text = c.args.text.now in
     let bytes = c.as_bytes-bytes in
-    (c.requires.made, subst (λ l. AreLeads l c.args.front.count (c.args.front.count + 64) c.leads_from-left.result) bytes.ensures.value c.leads_from-left.ensures, omega arith)
+    let leads = subst (λ l. AreLeads l c.args.front.count (c.args.front.count + 64) c.leads_from-left.result) bytes.ensures.value c.leads_from-left.ensures in
+    (c.requires.made, leads, omega arith)
 
 pub make_at-requires-clause-utf8 : goal.make_at-requires-clause-utf8
 make_at-requires-clause-utf8 c =
     let lowest = c.lowest-before in
-    (reached c.args.known c.args.text.now c.requires.lowers c.requires.size c.leads.made.count (c.args.front.count + 64) c.leads.left lowest.result c.leads.made.apart
-    c.leads.room c.leads.invariant.1 lowest.ensures.set lowest.ensures.first c.leads.invariant.0).reads.utf8
+    (reached c.args.known c.args.text.now c.requires.lowers c.requires.size c.leads.made.count (c.args.front.count + 64) c.leads.left
+    lowest.result c.leads.made.apart c.leads.room c.leads.invariant.1 lowest.ensures.set lowest.ensures.first c.leads.invariant.0).reads.utf8
 
 pub returns-in_default-clause-made : goal.returns-in_default-clause-made
 returns-in_default-clause-made c =
@@ -68,6 +69,7 @@ pub returns-clause-made : goal.returns-clause-made
 returns-clause-made c =
     let m = c.leads.invariant.0 in
     let size = ap length c.as_bytes-bytes.ensures.value in
-    reached_all c.args.known c.args.text.now c.requires.lowers c.requires.size c.leads.made.count (c.args.front.count + 64) c.leads.left c.min.result c.leads.made.apart
-    c.leads.room c.leads.invariant.1 c.leads-test.false (omega (arith, c.min.ensures, c.max.ensures, m.within, size)) (omega (arith, c.min.ensures, c.max.ensures, m.within, size))
+    reached_all c.args.known c.args.text.now c.requires.lowers c.requires.size c.leads.made.count (c.args.front.count + 64) c.leads.left
+    c.min.result c.leads.made.apart c.leads.room c.leads.invariant.1 c.leads-test.false
+    (omega (arith, c.min.ensures, c.max.ensures, m.within, size)) (omega (arith, c.min.ensures, c.max.ensures, m.within, size))
     (λ k less. omega (arith, less, c.min.ensures, c.max.ensures)) m

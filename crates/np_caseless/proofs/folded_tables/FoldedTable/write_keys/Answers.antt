@@ -45,7 +45,8 @@ returns-clause-keys g c =
     let s = span.result in
     let size = length-take-le count room (omega (arith, m.within, m.size)) in
     let inside : s ≤ count = omega (arith, span.ensures.boundary.0, ap length c.from_utf8_unchecked-keys.ensures, size) in
-    let of_room = subst (λ l. IsEachPartStable (g.T.NormTable.model c.table.result.now) form (chars (take s l))) c.from_utf8_unchecked-keys.ensures span.ensures.stable in
+    let of_room = subst (λ l. IsEachPartStable (g.T.NormTable.model c.table.result.now) form (chars (take s l)))
+    c.from_utf8_unchecked-keys.ensures span.ensures.stable in
     let of_version = subst (λ (d : VersionData). IsEachPartStable d form (chars (take s (take count room)))) c.table.ensures of_room in
     let stable = subst (λ (l : List ℕ). IsEachPartStable v.version form (chars l)) (take-take s count room inside) of_version in
     each_stable v c.meets_conditions.ensures form known.result known.ensures.simple.simple known.ensures.own
