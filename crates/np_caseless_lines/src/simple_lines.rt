@@ -107,12 +107,10 @@ pub(crate) fn push_simple<'a, T: NormTable + Drop>(
         let done = size - answered.left.len();
         let is_cut = size < rest.len();
         rest = &rest[done..];
-        if done > 0 {
-            most = LAST.min(2 * most);
-        } else if answered.is_made && is_cut && most < LAST {
-            most = LAST;
-        } else {
+        let is_over = !answered.is_made || !is_cut || (done == 0 && most == LAST);
+        if is_over {
             return Ok(rest);
         }
+        most = if done > 0 { LAST.min(2 * most) } else { LAST };
     }
 }

@@ -44,8 +44,8 @@ windows-preserved g c =
           c.args.text.now rest.result.now c.args.out.now.items rest.ensures.value c.windows.invariant.2,
     )
 
-pub returns-else-answered : goal.returns-else-answered
-returns-else-answered g c =
+pub returns-then-is_over : goal.returns-then-is_over
+returns-then-is_over g c =
     let cut = c.split_at in
     let answered = c.in_ok-answered in
     let rest = c.range_from-rest in
