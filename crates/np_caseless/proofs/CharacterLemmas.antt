@@ -282,3 +282,62 @@ encoded_two c few =
             | inr most ↦ absurd (omega (arith, few, ap length (encode_four c most)))
           ]
     ]
+
+-- no byte of one but its first begins a character
+module _ (bytes : List ℕ) (at count code : ℕ) (here : IsCodeAt bytes at count code) where
+  pub inside_low : (j : ℕ) → 1 ≤ j → j < count → get_or bytes (at + j) 0 < 192
+  inside_low j some less =
+      elim (cases_lt code 0x80) [
+        | inl one ↦ absurd (omega (arith, some, less, sized bytes at count code here (code ∷ []) (encode_one code one)))
+        | inr several ↦
+            elim (cases_lt code 0x800) [
+              | inl few ↦ two (encode_two code several few)
+              | inr many ↦
+                  elim (cases_lt code 0x10000) [
+                    | inl fits ↦ three (encode_three code many fits)
+                    | inr most ↦ four (encode_four code most)
+                  ]
+            ]
+      ]
+    where
+      back : List ℕ
+      back = drop (at + count) bytes
+
+      last : (n : ℕ) → 128 + n % 64 < 192
+      last n = omega arith
+
+      two : encode_utf8 code ≡ (192 + code / 64) ∷ (128 + code % 64) ∷ [] → get_or bytes (at + j) 0 < 192
+      two e =
+          let encoded = (192 + code / 64) ∷ (128 + code % 64) ∷ [] in
+          let place : j ≡ 1 = omega (arith, some, less, sized bytes at count code here encoded e) in
+          omega (arith, read_byte bytes at count code here j encoded e, ap (λ n. get_or (encoded ++ back) n 0) place, last code)
+
+      three : encode_utf8 code ≡ (224 + code / 4096) ∷ (128 + code / 64 % 64) ∷ (128 + code % 64) ∷ [] → get_or bytes (at + j) 0 < 192
+      three e =
+          let encoded = (224 + code / 4096) ∷ (128 + code / 64 % 64) ∷ (128 + code % 64) ∷ [] in
+          let size = sized bytes at count code here encoded e in
+          let read = read_byte bytes at count code here j encoded e in
+          elim (cases_lt j 2) [
+            | inl first ↦ let place : j ≡ 1 = omega (arith, some, first) in
+                omega (arith, read, ap (λ n. get_or (encoded ++ back) n 0) place, last (code / 64))
+            | inr later ↦ let place : j ≡ 2 = omega (arith, later, less, size) in
+                omega (arith, read, ap (λ n. get_or (encoded ++ back) n 0) place, last code)
+          ]
+
+      four : encode_utf8 code ≡ (240 + code / 262144) ∷ (128 + code / 4096 % 64) ∷ (128 + code / 64 % 64) ∷ (128 + code % 64) ∷ []
+          → get_or bytes (at + j) 0 < 192
+      four e =
+          let encoded = (240 + code / 262144) ∷ (128 + code / 4096 % 64) ∷ (128 + code / 64 % 64) ∷ (128 + code % 64) ∷ [] in
+          let size = sized bytes at count code here encoded e in
+          let read = read_byte bytes at count code here j encoded e in
+          elim (cases_lt j 2) [
+            | inl first ↦ let place : j ≡ 1 = omega (arith, some, first) in
+                omega (arith, read, ap (λ n. get_or (encoded ++ back) n 0) place, last (code / 4096))
+            | inr more ↦
+                elim (cases_lt j 3) [
+                  | inl second ↦ let place : j ≡ 2 = omega (arith, more, second) in
+                      omega (arith, read, ap (λ n. get_or (encoded ++ back) n 0) place, last (code / 64))
+                  | inr later ↦ let place : j ≡ 3 = omega (arith, later, less, size) in
+                      omega (arith, read, ap (λ n. get_or (encoded ++ back) n 0) place, last code)
+                ]
+          ]

@@ -148,19 +148,32 @@ module _ (known : KnownImages) (text : List ℕ) where
         subst (λ k. AreMade known text room k apart) (omega arith) (made_bytes n (at + 1) apart room (omega (arith, within)) moved one)
 
     -- those up to the next that is marked to begin one
-    pub reached : (at to left before : ℕ) (apart : Bool) (room : List ℕ) → AreLeads text at to left → bit_at left before ≡ 1
-        → ((k : ℕ) → k < before → bit_at left k ≡ 0) → AreMade known text room at apart → AreMade known text room (at + before) apart
-    reached at to left before apart room leads one first m =
-        let within = lead_within text (at + before) (leads.set before one) in
-        made_bytes before at apart room (omega (arith, within))
-        (λ k less. leads.clear k (first k less) (omega (arith, leads.before before one, less))) m
+    pub reached : (end from to left t : ℕ) (apart : Bool) (room : List ℕ) → AreLeads text end from to left → bit_at left t ≡ 1
+        → ((k : ℕ) → k < t → bit_at left k ≡ 0) → from ≤ end → AreMade known text room end apart → AreMade known text room (from + t) apart
+    reached end from to left t apart room leads one first later m =
+        let within = lead_within text (from + t) (leads.set t one) in
+        let all : end + (from + t - end) ≡ from + t = omega (arith, leads.behind t one) in
+        subst (λ k. AreMade known text room k apart) all
+        (made_bytes (from + t - end) end apart room (omega (arith, all, within)) (low within) m)
+      where
+        low : from + t < length text → (k : ℕ) → k < from + t - end → get_or text (end + k) 0 < 192
+        low within k less =
+            let place : from + (end + k - from) ≡ end + k = omega (arith, later) in
+            let clear = leads.clear (end + k - from) (first (end + k - from) (omega (arith, less, later))) (omega (arith, place))
+            (omega (arith, place, less, leads.before t one)) in
+            subst (λ n. get_or text n 0 < 192) place clear
 
     -- where none is any more, up to a place
-    pub reached_all : (at to left end : ℕ) (apart : Bool) (room : List ℕ) → AreLeads text at to left → left ≡ 0 → at ≤ end → end ≤ length text
-        → ((k : ℕ) → at + k < end → at + k < to) → AreMade known text room at apart → AreMade known text room end apart
-    reached_all at to left end apart room leads none later within below m =
-        let n = end - at in
-        let all : at + n ≡ end = omega (arith, later) in
-        let clear : (k : ℕ) → bit_at left k ≡ 0 = λ k. ap (λ b. bit_at b k) none ∙ bit_at-zero k in
+    pub reached_all : (end from to left last : ℕ) (apart : Bool) (room : List ℕ) → AreLeads text end from to left → left ≡ 0 → from ≤ end → end ≤ last
+        → last ≤ length text → ((k : ℕ) → end + k < last → end + k < to) → AreMade known text room end apart → AreMade known text room last apart
+    reached_all end from to left last apart room leads none later behind within below m =
+        let all : end + (last - end) ≡ last = omega (arith, behind) in
         subst (λ k. AreMade known text room k apart) all
-        (made_bytes n at apart room (omega (arith, all, within)) (λ k less. leads.clear k (clear k) (below k (omega (arith, less, all)))) m)
+        (made_bytes (last - end) end apart room (omega (arith, all, within)) low m)
+      where
+        low : (k : ℕ) → k < last - end → get_or text (end + k) 0 < 192
+        low k less =
+            let place : from + (end + k - from) ≡ end + k = omega (arith, later) in
+            let clear = leads.clear (end + k - from) (ap (λ b. bit_at b (end + k - from)) none ∙ bit_at-zero (end + k - from)) (omega (arith, place))
+            (omega (arith, place, below k (omega (arith, less, behind)))) in
+            subst (λ n. get_or text n 0 < 192) place clear

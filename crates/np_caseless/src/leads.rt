@@ -12,7 +12,7 @@ pub(crate) const LANES: usize = 64;
 #[inline(always)]
 fn leads_in_lanes(bytes: &[u8]) -> u64
     requires { 64 ≤ length bytes.now }
-    ensures { AreLeads bytes.now 0 64 result }
+    ensures { AreLeads bytes.now 0 0 64 result }
 {
     u8x64::from_slice(bytes)
         .simd_ge(u8x64::splat(0xC0))
@@ -23,7 +23,7 @@ fn leads_in_lanes(bytes: &[u8]) -> u64
 #[inline(always)]
 pub(crate) fn leads_from(bytes: &[u8], from: usize) -> u64
     requires { from ≤ length bytes.now }
-    ensures { AreLeads bytes.now from (from + 64) result }
+    ensures { AreLeads bytes.now from from (from + 64) result }
 {
     let rest = &bytes[from..];
     if rest.len() >= LANES {

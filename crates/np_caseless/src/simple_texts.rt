@@ -113,6 +113,7 @@ fn make_at(known: KnownImages<'_>, text: &str, at: usize, room: &mut [u8]) -> Op
     requires room { length room.now ≡ length text.now }
     ensures some { IfSome result (λ made. 0 < made.count) }
     ensures few { IfSome result (λ made. made.count ≤ 4) }
+    ensures inside { IfSome result (λ made. (j : ℕ) → 1 ≤ j → j < made.count → get_or text.now (at + j) 0 < 192) }
     ensures made { IfSome result (λ made. (apart : Bool) → AreMade known.entry text.now room.old at apart
         → AreMade known.entry text.now room.new (at + made.count) (apart && made.apart)) }
     ensures kept { IfNone result (room.new ≡ room.old) }
@@ -141,15 +142,15 @@ fn make_next(known: KnownImages<'_>, text: &str, front: MadeFront, room: &mut [u
     let mut made = front;
     let mut left = leads_from(bytes, front.count);
     'leads: while left != 0 {
-        let before = lowest(left);
-        let at = made.count + before;
+        let bit = lowest(left);
+        let at = front.count + bit;
         let Some(code) = make_at(known, text, at, room) else {
             return MadeFront {
                 count: at,
                 apart: made.apart,
             };
         };
-        left = left >> before >> code.count;
+        left ^= 1 << bit;
         made = MadeFront {
             count: at + code.count,
             apart: made.apart && code.apart,

@@ -50,11 +50,12 @@ pub record AreMade (known : KnownImages) (text room : List ℕ) (at : ℕ) (apar
   pub reads : IsRead text (drop at text) read
   pub made : AreStandIns known apart read (take at room)
 
--- of the bytes of a text from one place on up to another those have a bit that begin characters of several bytes
-pub record AreLeads (text : List ℕ) (from to bits : ℕ) : Type 0 where
+-- of the bytes of a text from one place on up to another those have a bit that begin characters of several bytes, but for those before `end`
+pub record AreLeads (text : List ℕ) (end from to bits : ℕ) : Type 0 where
   pub set : (k : ℕ) → bit_at bits k ≡ 1 → 192 ≤ get_or text (from + k) 0
+  pub behind : (k : ℕ) → bit_at bits k ≡ 1 → end ≤ from + k
   pub before : (k : ℕ) → bit_at bits k ≡ 1 → from + k < to
-  pub clear : (k : ℕ) → bit_at bits k ≡ 0 → from + k < to → get_or text (from + k) 0 < 192
+  pub clear : (k : ℕ) → bit_at bits k ≡ 0 → end ≤ from + k → from + k < to → get_or text (from + k) 0 < 192
 
 -- bytes are those that stand for what was read of a text; where they are told to stand apart, they are assigned and their own form
 pub record IsMadeOfFront (v : FoldedVersion) (form : Form) (apart : Bool) (text rest made : List ℕ) : Type 0 where
