@@ -15,7 +15,7 @@ LETTERS = (
 MARKED = ("e\u0301", "E\u0301", "\u05d0\u05b0", "\u1100\u1161\u11a8", "\u03b1\u0345")
 
 # How many bytes are looked at at once, one time after another.
-LOOKED_AT = (64, 125, 128, 250, 500, 1000)
+LOOKED_AT = (64, 128, 250, 500, 1000)
 
 
 def cut_to(line, size):

@@ -73,8 +73,17 @@ fn image_at(simple: &[SimpleImage], here: Character) -> Option<SimpleImage>
     if image.bytes == 0 { None } else { Some(image) }
 }
 
+/// Whether a code point most likely composes with what stands before it: a combining diacritical mark, a conjoining jamo, or a
+/// sound mark of kana. A text of these isn't its own form, so what was made behind one would be made in vain.
+#[inline(always)]
+fn may_compose(code: usize) -> bool {
+    (0x300..0x370).contains(&code)
+        || (0x1100..0x1200).contains(&code)
+        || (0x3099..0x309B).contains(&code)
+}
+
 /// Writes what stands for a character of several bytes to where it stands: its image, or itself, which stands there already. None
-/// where nothing is known of it.
+/// where nothing is known of it, or it most likely composes.
 #[inline(always)]
 fn make(known: KnownImages<'_>, here: Character, room: &mut [u8]) -> Option<MadeCharacter>
     requires size { length known.simple.now ≡ 0x3000 }
@@ -93,6 +102,9 @@ fn make(known: KnownImages<'_>, here: Character, room: &mut [u8]) -> Option<Made
             count: here.count,
             apart: true,
         });
+    }
+    if may_compose(here.code) {
+        return None;
     }
     if !is_marked_code(known.own, here.code) {
         return None;

@@ -14,7 +14,7 @@ use np_lines::{LineEnd, Wanted, cut_line};
 use np_versions::NormTable;
 
 /// How many bytes of a text are looked at at once at first, at most.
-const FIRST: usize = 125;
+const FIRST: usize = 250;
 
 /// How many in the end, at most.
 const LAST: usize = 1000;
