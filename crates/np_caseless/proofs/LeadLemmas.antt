@@ -1,13 +1,12 @@
 -- The bytes that begin characters of several bytes, as bits.
-use Rattle.std.proofs.Common.{◌≡◌, ◌≢◌, ℕ, ◌+◌, ◌-◌, ◌*◌, ◌%◌, ◌^◌, ◌<◌, ◌≤◌, Bool, true, false, cond, List, ◌++◌, drop, get_or, length, map, replicate, refl, sym, ap, subst, take, ◌∙◌, arith, inl, inr, w8}
-use Rattle.std.proofs.lemmas.Bool.{cases_eq, cases_lt, leb-true, leb-false}
+use Rattle.std.proofs.Common.{◌≡◌, ◌/◌, ℕ, ◌+◌, ◌-◌, ◌*◌, ◌%◌, ◌^◌, ◌<◌, ◌≤◌, Bool, true, false, cond, List, ◌++◌, drop, get_or, length, map, pow-add, pow_pos, replicate, refl, sym, ap, subst, take, ◌∙◌, arith, inl, inr, w8}
+use Rattle.std.proofs.lemmas.Bool.{cases_lt, leb-true, leb-false}
 use Rattle.std.proofs.lemmas.List.{get_or_append_left, get_or-append_right, get_or-drop, get_or-map, get_or_past, get_or-replicate, length-drop, length-map, length-replicate, take_rest}
 use Rattle.std.proofs.lemmas.Simd.{bit_mask_l, get_or-chunk, length-chunk, mask_l-mod, tops_compared, zip2_splat_left}
-use Rattle.std.proofs.lemmas.Nat.Bits.{bit_at-lt, bit_at-pow_other, bit_at-pow_same, bit_at_xor}
-use Rattle.std.proofs.Math.Nat.{mod-eq_of_lt}
-use Rattle.std.proofs.lemmas.Nat.{pow_below}
+use Rattle.std.proofs.lemmas.Nat.Bits.{bit_at_cat_high, bit_at_cat_low, bit_at-zero}
+use Rattle.std.proofs.Math.Nat.{div-mul-le_self, mod-eq_of_lt}
+use native.Mathlib.Nat.{div-div-eq-div-mul}
 use Rattle.std.specs.Int.{bit_at}
-use Rattle.std.specs.Int.Bits.{bit_xor}
 use Rattle.np_caseless.specs.inside.SimpleTexts.{AreLeads}
 use lib.Dec.{leb}
 use lib.Lanes.{chunk, mask_l, top, zip2}
@@ -94,46 +93,44 @@ leads_few text few from bits is within are =
               ∙ sym (get_or_past text (from + k) 0 (omega (arith, more, ap length rest, length-drop from text, within)))
         ]
 
--- one bit, as it is computed
-one_bit : (t : ℕ) → t < 64 → 1 * 2 ^ t % 2 ^ 64 ≡ 2 ^ t
-one_bit t small =
-    let same : 1 * 2 ^ t ≡ 2 ^ t = omega arith in
-    ap (λ n. n % 2 ^ 64) same ∙ mod-eq_of_lt (pow_below t 64 small)
+-- the bits from a place on, as they are computed
+bit_behind : (bits n k : ℕ) → bit_at (bits / 2 ^ n) k ≡ bit_at bits (n + k)
+bit_behind bits n k = ap (λ m. m % 2) (div-div-eq-div-mul bits (2 ^ n) (2 ^ k) ∙ ap (λ p. bits / p) (sym (pow-add 2 n k)))
 
--- without the lowest, of a character that was passed
-pub leads_past : (text : List ℕ) (end from to bits t count : ℕ) → t < 64 → AreLeads text end from to bits → bit_at bits t ≡ 1 → ((k : ℕ) → k < t → bit_at bits k ≡ 0)
-    → 0 < count → ((j : ℕ) → 1 ≤ j → j < count → get_or text (from + t + j) 0 < 192) → AreLeads text (from + t + count) from to (bit_xor bits (1 * 2 ^ t % 2 ^ 64))
-leads_past text end from to bits t count small are one first some inside = subst (λ n. AreLeads text (from + t + count) from to (bit_xor bits n)) (sym (one_bit t small)) (record {
+module _ (bits p : ℕ) (small : bits < 2 ^ 64) where
+  abbrev cut : ℕ
+  cut = bits / 2 ^ p * 2 ^ p % 2 ^ 64
+
+  cut_is : cut ≡ bits / 2 ^ p * 2 ^ p + 0
+  cut_is = mod-eq_of_lt (omega (arith, div-mul-le_self bits (2 ^ p), small)) ∙ omega arith
+
+  pub cut_before : (k : ℕ) → k < p → bit_at cut k ≡ 0
+  cut_before k less = ap (λ n. bit_at n k) cut_is ∙ bit_at_cat_low (bits / 2 ^ p) p 0 k less ∙ bit_at-zero k
+
+  pub cut_behind : (k : ℕ) → p ≤ k → bit_at cut k ≡ bit_at bits k
+  cut_behind k more =
+      let place : p + (k - p) ≡ k = omega (arith, more) in
+      ap (λ n. bit_at n k) cut_is
+      ∙ bit_at_cat_high (bits / 2 ^ p) p 0 k (pow_pos p) more
+      ∙ bit_behind bits p (k - p)
+      ∙ ap (bit_at bits) place
+
+-- those behind what was passed
+pub leads_past : (text : List ℕ) (end later from to bits left : ℕ) → AreLeads text end from to bits → from ≤ end → end ≤ later
+    → ((k : ℕ) → k < later - from → bit_at left k ≡ 0) → ((k : ℕ) → later - from ≤ k → bit_at left k ≡ bit_at bits k) → AreLeads text later from to left
+leads_past text end later from to bits left are first more before behind = record {
   set = λ k on. are.set k (was k on);
-  behind = λ k on.
-      elim (cases_lt k (t + count)) [
-        | inr far ↦ omega (arith, far)
-        | inl near ↦
-            elim (cases_lt k t) [
-              | inl less ↦ absurd (omega (arith, first k less, was k on))
-              | inr more ↦
-                  let place : from + t + (k - t) ≡ from + k = omega (arith, more) in
-                  let low = inside (k - t) (omega (arith, more, others k on)) (omega (arith, near, more)) in
-                  absurd (omega (arith, are.set k (was k on), low, ap (λ n. get_or text n 0) place))
-            ]
-      ];
+  behind = λ k on. omega (arith, there k on, first, more);
   before = λ k on. are.before k (was k on);
-  clear = λ k off later lt.
-      elim (cases_eq k t) [
-        | inl same ↦ absurd (omega (arith, same, later, some))
-        | inr other ↦ are.clear k (still k other off) (omega (arith, later, are.behind t one)) lt
-      ];
-})
+  clear = λ k off past lt. are.clear k (sym (behind k (omega (arith, past, first, more))) ∙ off) (omega (arith, past, more)) lt;
+}
   where
-    changed : (k : ℕ) → bit_at (bit_xor bits (2 ^ t)) k ≡ (bit_at bits k + bit_at (2 ^ t) k) % 2
-    changed k = bit_at_xor bits (2 ^ t) k
+    there : (k : ℕ) → bit_at left k ≡ 1 → later - from ≤ k
+    there k on =
+        elim (cases_lt k (later - from)) [
+          | inl less ↦ absurd (omega (arith, on, before k less))
+          | inr past ↦ past
+        ]
 
-    others : (k : ℕ) → bit_at (bit_xor bits (2 ^ t)) k ≡ 1 → k ≢ t
-    others k on = λ same.
-        omega (arith, on, changed k, one, bit_at-pow_same t, ap (bit_at bits) same, ap (bit_at (2 ^ t)) same)
-
-    was : (k : ℕ) → bit_at (bit_xor bits (2 ^ t)) k ≡ 1 → bit_at bits k ≡ 1
-    was k on = omega (arith, on, changed k, bit_at-pow_other t k (others k on), bit_at-lt bits k)
-
-    still : (k : ℕ) → k ≢ t → bit_at (bit_xor bits (2 ^ t)) k ≡ 0 → bit_at bits k ≡ 0
-    still k other off = omega (arith, off, changed k, bit_at-pow_other t k other, bit_at-lt bits k)
+    was : (k : ℕ) → bit_at left k ≡ 1 → bit_at bits k ≡ 1
+    was k on = sym (behind k (there k on)) ∙ on

@@ -44,3 +44,15 @@ pub(crate) fn lowest(bits: u64) -> usize
 {
     (bits.trailing_zeros() & 63) as usize
 }
+
+/// The bits from a place on.
+#[inline(always)]
+pub(crate) fn bits_from(bits: u64, place: usize) -> u64
+    ensures before { (k : ℕ) → k < place → bit_at result k ≡ 0 }
+    ensures behind { (k : ℕ) → place ≤ k → bit_at result k ≡ bit_at bits k }
+{
+    if place >= LANES {
+        return 0;
+    }
+    bits >> place << place
+}

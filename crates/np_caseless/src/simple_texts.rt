@@ -2,12 +2,12 @@
 //!
 //! All of ASCII is made lowercase at once before that, and what doesn't change is there already. So only the bytes are looked at
 //! that begin characters of several bytes; which these are is told of 64 bytes at once, without a branch for each.
-ghost use Rattle.std.specs.Prelude.{◌≡◌, ◌≢◌, ◌++◌, ◌+◌, ◌&&◌, ◌<◌, ◌≤◌, ℕ, Bool, List, drop, encode_utf8, get_or, length, take, true, IfNone, IfSome, IsUtf8};
+ghost use Rattle.std.specs.Prelude.{◌≡◌, ◌≢◌, ◌++◌, ◌+◌, ◌&&◌, ◌<◌, ◌≤◌, ℕ, Bool, List, false, drop, encode_utf8, get_or, length, take, true, IfNone, IfSome, IsUtf8};
 ghost use Rattle.np_caseless.specs.inside.SimpleImages.{IsCodeAt, LowerAscii, bytes_of, listed};
 ghost use Rattle.np_caseless.specs.inside.SimpleTexts.{AreMade};
 
 use crate::characters::{Character, char_at, three_at, two_at};
-use crate::leads::{LANES, leads_from, lowest};
+use crate::leads::{LANES, bits_from, leads_from, lowest};
 use crate::marks::is_marked_code;
 use crate::simple_images::SimpleImage;
 
@@ -77,9 +77,8 @@ fn image_at(simple: &[SimpleImage], here: Character) -> Option<SimpleImage>
 /// sound mark of kana. A text of these isn't its own form, so what was made behind one would be made in vain.
 #[inline(always)]
 fn may_compose(code: usize) -> bool {
-    (0x300..0x370).contains(&code)
-        || (0x1100..0x1200).contains(&code)
-        || (0x3099..0x309B).contains(&code)
+    code < 0x309B
+        && ((0x300..0x370).contains(&code) || (0x1100..0x1200).contains(&code) || code >= 0x3099)
 }
 
 /// Writes what stands for a character of several bytes to where it stands: its image, or itself, which stands there already. None
@@ -115,7 +114,29 @@ fn make(known: KnownImages<'_>, here: Character, room: &mut [u8]) -> Option<Made
     })
 }
 
-/// Writes what stands for the character that begins at a place, one of several bytes. None where nothing is known of it.
+/// Where the characters of three bytes end that stand at a place one behind another, and are their own images and no others: most
+/// of a text of ideographs or of Hangul is made of these.
+#[inline(always)]
+fn own_threes_end(known: KnownImages<'_>, bytes: &[u8], from: usize) -> usize
+    requires place { from ≤ length bytes.now }
+    requires utf8 { IsUtf8 (drop from bytes.now) }
+    ensures later { from ≤ result }
+    ensures within { result ≤ length bytes.now }
+    ensures made { (room : List ℕ) → AreMade known.entry bytes.now room from false → AreMade known.entry bytes.now room result false }
+{
+    let mut at = from;
+    'codes: while at < bytes.len() && bytes[at] / 16 == 14 {
+        let code = three_at(bytes, at).code;
+        if code < known.simple.len() || may_compose(code) || !is_marked_code(known.own, code) {
+            return at;
+        }
+        at += 3;
+    }
+    at
+}
+
+/// Writes what stands for the character that begins at a place, one of several bytes, and for what follows it where that is as said.
+/// None where nothing is known of it.
 #[inline(always)]
 fn make_at(known: KnownImages<'_>, text: &str, at: usize, room: &mut [u8]) -> Option<MadeCharacter>
     requires size { length known.simple.now ≡ 0x3000 }
@@ -124,8 +145,7 @@ fn make_at(known: KnownImages<'_>, text: &str, at: usize, room: &mut [u8]) -> Op
     requires utf8 { IsUtf8 (drop at text.now) }
     requires room { length room.now ≡ length text.now }
     ensures some { IfSome result (λ made. 0 < made.count) }
-    ensures few { IfSome result (λ made. made.count ≤ 4) }
-    ensures inside { IfSome result (λ made. (j : ℕ) → 1 ≤ j → j < made.count → get_or text.now (at + j) 0 < 192) }
+    ensures within { IfSome result (λ made. at + made.count ≤ length text.now) }
     ensures made { IfSome result (λ made. (apart : Bool) → AreMade known.entry text.now room.old at apart
         → AreMade known.entry text.now room.new (at + made.count) (apart && made.apart)) }
     ensures kept { IfNone result (room.new ≡ room.old) }
@@ -135,7 +155,14 @@ fn make_at(known: KnownImages<'_>, text: &str, at: usize, room: &mut [u8]) -> Op
     if lead_byte / 32 == 6 {
         make(known, two_at(bytes, at), room)
     } else if lead_byte / 16 == 14 {
-        make(known, three_at(bytes, at), room)
+        let made = make(known, three_at(bytes, at), room)?;
+        if made.apart {
+            return Some(made);
+        }
+        Some(MadeCharacter {
+            count: own_threes_end(known, bytes, at + made.count) - at,
+            apart: false,
+        })
     } else {
         make(known, char_at(text, at)?, room)
     }
@@ -162,7 +189,7 @@ fn make_next(known: KnownImages<'_>, text: &str, front: MadeFront, room: &mut [u
                 apart: made.apart,
             };
         };
-        left ^= 1 << bit;
+        left = bits_from(left, at + code.count - front.count);
         made = MadeFront {
             count: at + code.count,
             apart: made.apart && code.apart,

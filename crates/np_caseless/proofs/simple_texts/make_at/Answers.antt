@@ -1,5 +1,6 @@
-use Rattle.std.proofs.Common.{◌+◌, ◌<◌, get_or, subst, arith}
-use Rattle.np_caseless.proofs.CharacterLemmas.{encoded_most, encoded_two, inside_low, several_bytes}
+use Rattle.std.proofs.Common.{◌+◌, ◌∙◌, IsUtf8, drop, subst, sym, arith}
+use Rattle.np_forms.proofs.Words.{IsUtf8-past_char}
+use Rattle.np_caseless.proofs.CharacterLemmas.{encoded_two, several_bytes}
 use Rattle.np_caseless.proofs.MadeLemmas.{if_some}
 use Rattle.np_caseless.proofs.simple_texts.make_at.Goals as goal
 
@@ -21,31 +22,11 @@ returns-in_ok-char_at-clause-some c =
     let several = several_bytes text c.args.at here.count here.code c.in_ok-char_at.ensures.here (omega (arith, c.requires.lead_byte)) in
     if_some c.make-else-lead_byte-eq14.result (λ made is. omega (arith, is, several)) c.make-else-lead_byte-eq14.ensures.count
 
-pub returns-in_ok-char_at-clause-few : goal.returns-in_ok-char_at-clause-few
-returns-in_ok-char_at-clause-few c =
-    let here = c.in_ok-char_at.field-0 in
-    if_some c.make-else-lead_byte-eq14.result (λ made is. omega (arith, is, encoded_most here.code, c.in_ok-char_at.ensures.here.size))
-    c.make-else-lead_byte-eq14.ensures.count
-
-pub returns-then-lead_byte-eq6-clause-inside : goal.returns-then-lead_byte-eq6-clause-inside
-returns-then-lead_byte-eq6-clause-inside c =
-    let bytes = c.as_bytes-bytes in
+pub own_threes_end-requires-clause-utf8 : goal.own_threes_end-requires-clause-utf8
+own_threes_end-requires-clause-utf8 c =
+    let bytes = c.as_bytes-bytes.result.now in
     let at = c.args.at in
-    let low = inside_low bytes.result.now at 2 c.two_at.result.code c.two_at.ensures.here in
-    if_some c.make.result
-    (λ made is j some less. subst (λ l. get_or l (at + j) 0 < 192) bytes.ensures.value (low j some (omega (arith, less, is, c.two_at.ensures.count)))) c.make.ensures.count
-
-pub returns-then-lead_byte-eq14-clause-inside : goal.returns-then-lead_byte-eq14-clause-inside
-returns-then-lead_byte-eq14-clause-inside c =
-    let bytes = c.as_bytes-bytes in
-    let at = c.args.at in
-    let low = inside_low bytes.result.now at 3 c.three_at.result.code c.three_at.ensures.here in
-    if_some c.make-then-lead_byte-eq14.result
-    (λ made is j some less. subst (λ l. get_or l (at + j) 0 < 192) bytes.ensures.value (low j some (omega (arith, less, is, c.three_at.ensures.count))))
-    c.make-then-lead_byte-eq14.ensures.count
-
-pub returns-in_ok-char_at-clause-inside : goal.returns-in_ok-char_at-clause-inside
-returns-in_ok-char_at-clause-inside c =
-    let here = c.in_ok-char_at.field-0 in
-    let low = inside_low c.args.text.now c.args.at here.count here.code c.in_ok-char_at.ensures.here in
-    if_some c.make-else-lead_byte-eq14.result (λ made is j some less. low j some (omega (arith, less, is))) c.make-else-lead_byte-eq14.ensures.count
+    let here = c.three_at.ensures.here in
+    let utf8 = subst (λ l. IsUtf8 (drop at l)) (sym c.as_bytes-bytes.ensures.value) c.requires.utf8 in
+    subst (λ n. IsUtf8 (drop (at + n) bytes)) (sym (c.in_ok-made.ensures.count ∙ c.three_at.ensures.count))
+    (IsUtf8-past_char (drop at bytes) (drop (at + 3) bytes) c.three_at.result.code utf8 here.begins)

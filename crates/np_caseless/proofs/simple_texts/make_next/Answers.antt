@@ -42,8 +42,8 @@ leads-preserved-then-made c =
     reached known text c.requires.lowers c.requires.size c.leads.made.count from (from + 64) c.leads.left
     lowest.result apart c.leads.room leads lowest.ensures.set lowest.ensures.first c.leads.invariant.2 c.leads.invariant.0 in (
       subst (λ (b : Bool). AreMade known text c.make_at.new.room (at + code.count) (b && code.apart)) c.if-made.true (c.in-Some.ensures.made apart before),
-      leads_past text c.leads.made.count from (from + 64) c.leads.left lowest.result code.count lowest.ensures.within leads lowest.ensures.set lowest.ensures.first
-          c.in-Some.ensures.some c.in-Some.ensures.inside,
+      leads_past text c.leads.made.count (at + code.count) from (from + 64) c.leads.left c.bits_from-left.result leads c.leads.invariant.2
+          (omega (arith, leads.behind lowest.result lowest.ensures.set)) c.bits_from-left.ensures.before c.bits_from-left.ensures.behind,
       omega arith,
     )
 
@@ -62,8 +62,8 @@ leads-preserved c =
     lowest.result apart c.leads.room leads lowest.ensures.set lowest.ensures.first c.leads.invariant.2 c.leads.invariant.0 in
     let same = ap (λ b. b && code.apart) c.if-made.false ∙ sym c.if-made.false in (
       subst (λ (b : Bool). AreMade known text c.make_at.new.room (at + code.count) b) same (c.in-Some.ensures.made apart before),
-      leads_past text c.leads.made.count from (from + 64) c.leads.left lowest.result code.count lowest.ensures.within leads lowest.ensures.set lowest.ensures.first
-          c.in-Some.ensures.some c.in-Some.ensures.inside,
+      leads_past text c.leads.made.count (at + code.count) from (from + 64) c.leads.left c.bits_from-left.result leads c.leads.invariant.2
+          (omega (arith, leads.behind lowest.result lowest.ensures.set)) c.bits_from-left.ensures.before c.bits_from-left.ensures.behind,
       omega arith,
     )
 
