@@ -66,6 +66,53 @@ class EtcdCase(Case):
         return {"key": spelled(f"{prefix}/"), "range_end": spelled(f"{prefix}0")}
 
 
+class EtcdReads(EtcdCase):
+    """A log that is trimmed while somebody reads it."""
+
+    def trimmed_meanwhile(self, place):
+        """A log of records by themselves, and what one read answers that begins at its front, where it is trimmed to a place behind the
+        first batches."""
+        log, other = self.opened(), self.opened()
+        log.begin([(0, b"first")])
+        for count in range(30):
+            log.append([(0, b"%d" % count), (0, b"%d more" % count)])
+        asked, pieces = other._range, []
+
+        def trims(key, to=None, limit=1):
+            found = asked(key, to, limit)
+            if limit > 1 and not pieces:
+                pieces.append(found)
+                log.trim(0, place)
+            return found
+
+        with patch.object(other, "_range", trims):
+            rows = other.read(0, 0, 99)
+        self.assertEqual(len(pieces), 1)
+        return other, rows
+
+    def test_what_was_read_before_a_trim_is_answered(self):
+        for place in (30, 31):
+            with self.subTest(place=place):
+                self.prefix = f"t{secrets.token_hex(4)}"
+                self.log = self.servers.name(self.prefix)
+                log, rows = self.trimmed_meanwhile(place)
+                places = [at for at, _ in rows]
+                self.assertEqual(places, list(range(1, len(rows) + 1)))
+                self.assertTrue(0 < len(rows) < place)
+                # The next one begins where the log does.
+                self.assertEqual([at for at, _ in log.read(0, len(rows), 99)], list(range(place, 62)))
+
+    def test_a_batch_that_is_missing_in_the_midst_is_told(self):
+        log = self.opened()
+        log.begin([(0, b"first")])
+        for count in range(30):
+            log.append([(0, b"%d" % count)])
+        log._cluster.ask("/v3/kv/deleterange", {"key": spelled(f"{self.prefix}/batch/0000/{20:016x}")})
+        with self.assertRaises(LogBroken) as raised:
+            self.opened().read(0, 0, 99)
+        self.assertEqual(raised.exception.place, 20)
+
+
 class EtcdFaults(EtcdCase):
     """Members that end or stop."""
 

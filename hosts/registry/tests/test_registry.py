@@ -13,7 +13,7 @@ from healths import Healths  # noqa: F401
 from judging import Judging  # noqa: F401
 from log_kinds import EtcdKind, PostgresKind, RedisKind, SqliteKind  # noqa: F401
 from old_logs import OldLogs  # noqa: F401
-from over_etcd import EtcdAccounts, EtcdFaults, EtcdNodes, EtcdTls  # noqa: F401
+from over_etcd import EtcdAccounts, EtcdFaults, EtcdNodes, EtcdReads, EtcdTls  # noqa: F401
 from over_postgres import PostgresFaults, PostgresNodes, PostgresSettings  # noqa: F401
 from over_redis import Redis, RedisSettings  # noqa: F401
 from passwords import Names, Passwords  # noqa: F401

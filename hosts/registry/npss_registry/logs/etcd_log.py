@@ -181,6 +181,8 @@ class EtcdLog:
             batches = self._range(self._key(shard, at + 1), self._key(shard, _LAST_PLACE), limit)
             if not batches:
                 raise LogBroken(at + 1, _MISSING)
+            if found and self._begins_later(shard, batches[0], at):
+                break
             for key, value in batches:
                 found += self._batch(shard, (key, value), at, not found)
                 at = found[-1][0]
@@ -195,6 +197,11 @@ class EtcdLog:
         if not batch or (batch[0][0] != at + 1 and not is_first) or (batch[0][0] > at + 1 and self._range(self._key(shard, 0), pair[0])):
             raise LogBroken(at + 1, _MISSING)
         return batch
+
+    def _begins_later(self, shard: int, pair: Pair, at: int) -> bool:
+        """Whether the log begins with this batch now, which leaves some behind a place out: they were deleted since what stands before was read."""
+        batch = _unpacked(_place_of(pair[0]), pair[1])
+        return bool(batch) and batch[0][0] > at + 1 and not self._range(self._key(shard, 0), pair[0])
 
     def lasts(self, shards: int) -> list[int]:
         return self._lasts(shards)[0]
