@@ -82,6 +82,36 @@ class Redis(Case):
 
 
 @unittest.skipUnless(is_here("redis"), "redis-server or python3-redis is not here")
+class RedisReads(Case):
+    """A log that is trimmed while somebody reads it."""
+
+    def test_what_was_read_before_a_trim_is_answered(self):
+        server = RedisServer(self.folder)
+        self.addCleanup(server.close)
+        log, other = open_log(server.log, "make"), open_log(server.log)
+        self.addCleanup(log.close)
+        self.addCleanup(other.close)
+        log.begin([(0, b"first")])
+        log.append([(0, b"%d" % count) for count in range(349)])
+        asked, pieces = other._server.xrange, []
+
+        def trims(*words, **more):
+            pieces.append(asked(*words, **more))
+            if len(pieces) == 2:
+                log.trim(0, 300)
+            return pieces[-1]
+
+        with patch.object(other._server, "xrange", trims):
+            rows = other.read(0, 0, 1000)
+        self.assertEqual(len(pieces), 3)
+        places = [at for at, _ in rows]
+        self.assertEqual(places, list(range(1, len(rows) + 1)))
+        self.assertTrue(0 < len(rows) < 300)
+        # The next one begins where the log does.
+        self.assertEqual([at for at, _ in log.read(0, len(rows), 1000)], list(range(300, 351)))
+
+
+@unittest.skipUnless(is_here("redis"), "redis-server or python3-redis is not here")
 class RedisSettings(Case):
     """A Redis server that may lose what it answered isn't used, at first or later."""
 

@@ -15,7 +15,7 @@ from log_kinds import EtcdKind, PostgresKind, RedisKind, SqliteKind  # noqa: F40
 from old_logs import OldLogs  # noqa: F401
 from over_etcd import EtcdAccounts, EtcdFaults, EtcdNodes, EtcdReads, EtcdTls  # noqa: F401
 from over_postgres import PostgresFaults, PostgresNodes, PostgresSettings  # noqa: F401
-from over_redis import Redis, RedisSettings  # noqa: F401
+from over_redis import Redis, RedisReads, RedisSettings  # noqa: F401
 from passwords import Names, Passwords  # noqa: F401
 from page import Page  # noqa: F401
 from pasts import Earlier, Examined, Pasts  # noqa: F401

@@ -118,13 +118,16 @@ class RedisLog:
         return bounded(self._some(shard, behind, most))
 
     def _some(self, shard: int, behind: int, most: int) -> Iterator[tuple[int, bytes]]:
-        """The records behind a place, a few at a time."""
+        """The records behind a place, a few at a time, up to where the next ones were trimmed since those before were read."""
+        at = behind
         while most > 0:
             with self._asked():
-                found = self._server.xrange(self._stream(shard), min=f"(0-{behind}" if behind else "-", count=min(most, STEP))
+                found = self._server.xrange(self._stream(shard), min=f"(0-{at}" if at else "-", count=min(most, STEP))
+            if found and at > behind and self._place(found[0][0]) > at + 1:
+                break
             for identifier, fields in found:
-                behind = self._place(identifier)
-                yield behind, fields.get(b"record", b"")
+                at = self._place(identifier)
+                yield at, fields.get(b"record", b"")
             most = most - STEP if len(found) == STEP else 0
 
     def lasts(self, shards: int) -> list[int]:
