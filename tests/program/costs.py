@@ -36,11 +36,11 @@ EXTENSION = "".join(map(chr, range(0x20000, 0x20008)))
 # Lines by what they are of, for caseless keys, and the millions of instructions that are kept. Of ideographs by themselves nothing folds.
 CASELESS = {
     "ASCII": (f"{ASCII.title()}\n", 39.7),
-    "Latin": ("Zo\u00eb Na\u00efvet\u00e9\n\u00c0 C\u00f4t\u00e9\n", 103.8),
-    "Cyrillic": ("\u041d\u043e\u0432\u044b\u0439 \u0413\u043e\u0440\u043e\u0434\n\u0414\u043e\u043c \u041a\u043d\u0438\u0433\u0438\n", 122.7),
-    "ideographs": ("\u6771\u4eac\u90fd \u65e5\u672c\u6a4b\n\u6587\u5b57 \u4e2d\u592e\n", 130.7),
-    "capitals and ideographs": ("Tokyo \u6771\u4eac\u90fd\nOsaka \u5927\u962a\n", 113.8),
-    "ideographs of four bytes": (f"{EXTENSION[:3]} {EXTENSION[3:]}\n{EXTENSION[5:]} {EXTENSION[:5]}\n", 192.4),
+    "Latin": ("Zo\u00eb Na\u00efvet\u00e9\n\u00c0 C\u00f4t\u00e9\n", 91.7),
+    "Cyrillic": ("\u041d\u043e\u0432\u044b\u0439 \u0413\u043e\u0440\u043e\u0434\n\u0414\u043e\u043c \u041a\u043d\u0438\u0433\u0438\n", 100.1),
+    "ideographs": ("\u6771\u4eac\u90fd \u65e5\u672c\u6a4b\n\u6587\u5b57 \u4e2d\u592e\n", 127.9),
+    "capitals and ideographs": ("Tokyo \u6771\u4eac\u90fd\nOsaka \u5927\u962a\n", 112.0),
+    "ideographs of four bytes": (f"{EXTENSION[:3]} {EXTENSION[3:]}\n{EXTENSION[5:]} {EXTENSION[:5]}\n", 180.3),
 }
 
 # How many instructions a key takes through the library for C, by the text's name in doors/costs.c.

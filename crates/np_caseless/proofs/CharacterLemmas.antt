@@ -237,14 +237,6 @@ lower_encoded c high =
     ∙ ap₂ (λ p l. p ∷ l) (same x a) (ap₂ (λ p l. p ∷ l) (same y b) (ap₂ (λ p q. p ∷ q ∷ []) (same z d) (same w f)))
     ∙ sym e)
 
-pub encoded_most : (c : ℕ) → length (encode_utf8 c) ≤ 4
-encoded_most c =
-    by_bytes c (length (encode_utf8 c) ≤ 4)
-    (λ _ e. omega (arith, ap length e))
-    (λ x y _ _ _ e. omega (arith, ap length e))
-    (λ x y z _ _ _ _ e. omega (arith, ap length e))
-    (λ x y z w _ _ _ _ _ e. omega (arith, ap length e))
-
 pub encoded_few : (c : ℕ) → c < 0x10000 → length (encode_utf8 c) ≤ 3
 encoded_few c low =
     by_bytes c (length (encode_utf8 c) ≤ 3)
@@ -282,3 +274,67 @@ encoded_two c few =
             | inr most ↦ absurd (omega (arith, few, ap length (encode_four c most)))
           ]
     ]
+
+-- no byte of one but its first begins a character
+module _ (bytes : List ℕ) (at count code : ℕ) (here : IsCodeAt bytes at count code) where
+  later_low : (j : ℕ) → 1 ≤ j → j < count → get_or bytes (at + j) 0 < 192
+  later_low j some less =
+      elim (cases_lt code 0x80) [
+        | inl one ↦ absurd (omega (arith, some, less, sized bytes at count code here (code ∷ []) (encode_one code one)))
+        | inr several ↦
+            elim (cases_lt code 0x800) [
+              | inl few ↦ two (encode_two code several few)
+              | inr many ↦
+                  elim (cases_lt code 0x10000) [
+                    | inl fits ↦ three (encode_three code many fits)
+                    | inr most ↦ four (encode_four code most)
+                  ]
+            ]
+      ]
+    where
+      back : List ℕ
+      back = drop (at + count) bytes
+
+      last : (n : ℕ) → 128 + n % 64 < 192
+      last n = omega arith
+
+      two : encode_utf8 code ≡ (192 + code / 64) ∷ (128 + code % 64) ∷ [] → get_or bytes (at + j) 0 < 192
+      two e =
+          let encoded = (192 + code / 64) ∷ (128 + code % 64) ∷ [] in
+          let place : j ≡ 1 = omega (arith, some, less, sized bytes at count code here encoded e) in
+          omega (arith, read_byte bytes at count code here j encoded e, ap (λ n. get_or (encoded ++ back) n 0) place, last code)
+
+      three : encode_utf8 code ≡ (224 + code / 4096) ∷ (128 + code / 64 % 64) ∷ (128 + code % 64) ∷ [] → get_or bytes (at + j) 0 < 192
+      three e =
+          let encoded = (224 + code / 4096) ∷ (128 + code / 64 % 64) ∷ (128 + code % 64) ∷ [] in
+          let size = sized bytes at count code here encoded e in
+          let read = read_byte bytes at count code here j encoded e in
+          elim (cases_lt j 2) [
+            | inl first ↦ let place : j ≡ 1 = omega (arith, some, first) in
+                omega (arith, read, ap (λ n. get_or (encoded ++ back) n 0) place, last (code / 64))
+            | inr later ↦ let place : j ≡ 2 = omega (arith, later, less, size) in
+                omega (arith, read, ap (λ n. get_or (encoded ++ back) n 0) place, last code)
+          ]
+
+      four : encode_utf8 code ≡ (240 + code / 262144) ∷ (128 + code / 4096 % 64) ∷ (128 + code / 64 % 64) ∷ (128 + code % 64) ∷ []
+          → get_or bytes (at + j) 0 < 192
+      four e =
+          let encoded = (240 + code / 262144) ∷ (128 + code / 4096 % 64) ∷ (128 + code / 64 % 64) ∷ (128 + code % 64) ∷ [] in
+          let size = sized bytes at count code here encoded e in
+          let read = read_byte bytes at count code here j encoded e in
+          elim (cases_lt j 2) [
+            | inl first ↦ let place : j ≡ 1 = omega (arith, some, first) in
+                omega (arith, read, ap (λ n. get_or (encoded ++ back) n 0) place, last (code / 4096))
+            | inr more ↦
+                elim (cases_lt j 3) [
+                  | inl second ↦ let place : j ≡ 2 = omega (arith, more, second) in
+                      omega (arith, read, ap (λ n. get_or (encoded ++ back) n 0) place, last (code / 64))
+                  | inr later ↦ let place : j ≡ 3 = omega (arith, later, less, size) in
+                      omega (arith, read, ap (λ n. get_or (encoded ++ back) n 0) place, last code)
+                ]
+          ]
+
+  pub inside_low : (j : ℕ) → at < j → j < at + count → get_or bytes j 0 < 192
+  inside_low j more less =
+      let place : at + (j - at) ≡ j = omega (arith, more) in
+      subst (λ n. get_or bytes n 0 < 192) place (later_low (j - at) (omega (arith, more)) (omega (arith, less, more)))

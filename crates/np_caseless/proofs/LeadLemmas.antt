@@ -1,11 +1,9 @@
 -- The bytes that begin characters of several bytes, as bits.
-use Rattle.std.proofs.Common.{◌≡◌, ◌/◌, ℕ, ◌+◌, ◌-◌, ◌*◌, ◌%◌, ◌^◌, ◌<◌, ◌≤◌, Bool, true, false, cond, List, ◌++◌, drop, get_or, length, map, pow-add, pow_pos, replicate, refl, sym, ap, subst, take, ◌∙◌, arith, inl, inr, w8}
-use Rattle.std.proofs.lemmas.Bool.{cases_lt, leb-true, leb-false}
+use Rattle.std.proofs.Common.{◌≡◌, ◌≢◌, ℕ, zero, suc, ◌+◌, ◌-◌, ◌/◌, ◌%◌, ◌^◌, ◌<◌, ◌≤◌, Bool, true, false, cond, List, ◌++◌, drop, get_or, length, map, replicate, refl, sym, ap, subst, take, ◌∙◌, arith, inl, inr, w8}
+use Rattle.std.proofs.lemmas.Bool.{cases_eq, cases_lt, leb-true, leb-false}
 use Rattle.std.proofs.lemmas.List.{get_or_append_left, get_or-append_right, get_or-drop, get_or-map, get_or_past, get_or-replicate, length-drop, length-map, length-replicate, take_rest}
 use Rattle.std.proofs.lemmas.Simd.{bit_mask_l, get_or-chunk, length-chunk, mask_l-mod, tops_compared, zip2_splat_left}
-use Rattle.std.proofs.lemmas.Nat.Bits.{bit_at_cat_high, bit_at_cat_low, bit_at-zero}
-use Rattle.std.proofs.Math.Nat.{div-mul-le_self, mod-eq_of_lt}
-use native.Mathlib.Nat.{div-div-eq-div-mul}
+use Rattle.std.proofs.lemmas.Nat.Bits.{bit_at-suc, bit_at_lowest}
 use Rattle.std.specs.Int.{bit_at}
 use Rattle.np_caseless.specs.inside.SimpleTexts.{AreLeads}
 use lib.Dec.{leb}
@@ -93,44 +91,64 @@ leads_few text few from bits is within are =
               ∙ sym (get_or_past text (from + k) 0 (omega (arith, more, ap length rest, length-drop from text, within)))
         ]
 
--- the bits from a place on, as they are computed
-bit_behind : (bits n k : ℕ) → bit_at (bits / 2 ^ n) k ≡ bit_at bits (n + k)
-bit_behind bits n k = ap (λ m. m % 2) (div-div-eq-div-mul bits (2 ^ n) (2 ^ k) ∙ ap (λ p. bits / p) (sym (pow-add 2 n k)))
+-- the number before one has the same bits behind a place, and none there
+abbrev IsLessOne : ℕ → ℕ → Type 0
+IsLessOne t n = (bit_at (n - 1) t ≡ 0) × ((k : ℕ) → t < k → bit_at (n - 1) k ≡ bit_at n k)
 
-module _ (bits p : ℕ) (small : bits < 2 ^ 64) where
-  abbrev cut : ℕ
-  cut = bits / 2 ^ p * 2 ^ p % 2 ^ 64
+less_one_odd : (n : ℕ) → n % 2 ≡ 1 → IsLessOne 0 n
+less_one_odd n odd = (omega (arith, odd, bit_at_lowest (n - 1)), same)
+  where
+    same : (k : ℕ) → 0 < k → bit_at (n - 1) k ≡ bit_at n k
+    same zero more = absurd (omega (arith, more))
+    same (suc k) more =
+        let half : (n - 1) / 2 ≡ n / 2 = omega (arith, odd) in
+        bit_at-suc (n - 1) k ∙ ap (λ m. bit_at m k) half ∙ sym (bit_at-suc n k)
 
-  cut_is : cut ≡ bits / 2 ^ p * 2 ^ p + 0
-  cut_is = mod-eq_of_lt (omega (arith, div-mul-le_self bits (2 ^ p), small)) ∙ omega arith
+less_one_even : (t n : ℕ) → n % 2 ≡ 0 → IsLessOne t (n / 2) → IsLessOne (suc t) n
+less_one_even t n even below = (halved t ∙ below.0, same)
+  where
+    half : (n - 1) / 2 ≡ n / 2 - 1
+    half = omega (arith, even)
 
-  pub cut_before : (k : ℕ) → k < p → bit_at cut k ≡ 0
-  cut_before k less = ap (λ n. bit_at n k) cut_is ∙ bit_at_cat_low (bits / 2 ^ p) p 0 k less ∙ bit_at-zero k
+    halved : (k : ℕ) → bit_at (n - 1) (suc k) ≡ bit_at (n / 2 - 1) k
+    halved k = bit_at-suc (n - 1) k ∙ ap (λ m. bit_at m k) half
 
-  pub cut_behind : (k : ℕ) → p ≤ k → bit_at cut k ≡ bit_at bits k
-  cut_behind k more =
-      let place : p + (k - p) ≡ k = omega (arith, more) in
-      ap (λ n. bit_at n k) cut_is
-      ∙ bit_at_cat_high (bits / 2 ^ p) p 0 k (pow_pos p) more
-      ∙ bit_behind bits p (k - p)
-      ∙ ap (bit_at bits) place
+    same : (k : ℕ) → suc t < k → bit_at (n - 1) k ≡ bit_at n k
+    same zero more = absurd (omega (arith, more))
+    same (suc k) more = halved k ∙ below.1 k (omega (arith, more)) ∙ sym (bit_at-suc n k)
 
--- those behind what was passed
-pub leads_past : (text : List ℕ) (end later from to bits left : ℕ) → AreLeads text end from to bits → from ≤ end → end ≤ later
-    → ((k : ℕ) → k < later - from → bit_at left k ≡ 0) → ((k : ℕ) → later - from ≤ k → bit_at left k ≡ bit_at bits k) → AreLeads text later from to left
-leads_past text end later from to bits left are first more before behind = record {
+-- the place is that of the lowest bit
+pub bits_less_one : (t n : ℕ) → bit_at n t ≡ 1 → ((k : ℕ) → k < t → bit_at n k ≡ 0) → IsLessOne t n
+bits_less_one zero n one first = less_one_odd n (omega (arith, one, bit_at_lowest n))
+bits_less_one (suc t) n one first =
+    less_one_even t n (sym (bit_at_lowest n) ∙ first 0 (omega arith))
+    (bits_less_one t (n / 2) (sym (bit_at-suc n t) ∙ one) (λ k less. sym (bit_at-suc n k) ∙ first (suc k) (omega (arith, less))))
+
+-- without the lowest, of a character that was passed
+pub leads_past : (text : List ℕ) (end later from to bits rest t : ℕ) → AreLeads text end from to bits → bit_at bits t ≡ 1
+    → bit_at rest t ≡ 0 → ((k : ℕ) → k ≢ t → bit_at rest k ≡ bit_at bits k) → ((k : ℕ) → k < t → bit_at bits k ≡ 0)
+    → from + t < later → ((j : ℕ) → from + t < j → j < later → get_or text j 0 < 192) → AreLeads text later from to rest
+leads_past text end later from to bits rest t are one off kept first some inside = record {
   set = λ k on. are.set k (was k on);
-  behind = λ k on. omega (arith, there k on, first, more);
+  behind = λ k on.
+      elim (cases_lt (from + k) later) [
+        | inr far ↦ far
+        | inl near ↦
+            elim (cases_lt k t) [
+              | inl less ↦ absurd (omega (arith, first k less, was k on))
+              | inr more ↦ absurd (omega (arith, are.set k (was k on), inside (from + k) (omega (arith, more, others k on)) near))
+            ]
+      ];
   before = λ k on. are.before k (was k on);
-  clear = λ k off past lt. are.clear k (sym (behind k (omega (arith, past, first, more))) ∙ off) (omega (arith, past, more)) lt;
+  clear = λ k clear behind lt.
+      elim (cases_eq k t) [
+        | inl same ↦ absurd (omega (arith, same, behind, some))
+        | inr other ↦ are.clear k (sym (kept k other) ∙ clear) (omega (arith, behind, are.behind t one, some)) lt
+      ];
 }
   where
-    there : (k : ℕ) → bit_at left k ≡ 1 → later - from ≤ k
-    there k on =
-        elim (cases_lt k (later - from)) [
-          | inl less ↦ absurd (omega (arith, on, before k less))
-          | inr past ↦ past
-        ]
+    others : (k : ℕ) → bit_at rest k ≡ 1 → k ≢ t
+    others k on = λ same. omega (arith, on, off, ap (bit_at rest) same)
 
-    was : (k : ℕ) → bit_at left k ≡ 1 → bit_at bits k ≡ 1
-    was k on = sym (behind k (there k on)) ∙ on
+    was : (k : ℕ) → bit_at rest k ≡ 1 → bit_at bits k ≡ 1
+    was k on = sym (kept k (others k on)) ∙ on

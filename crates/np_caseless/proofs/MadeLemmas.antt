@@ -24,9 +24,13 @@ and_second : (a b : Bool) → a && b ≡ true → b ≡ true
 and_second true b t = t
 and_second false b t = let bad : false ≡ true = t in absurd (cc)
 
-pub and_whole : (a : Bool) → a && true ≡ a
+and_whole : (a : Bool) → a && true ≡ a
 and_whole true = refl
 and_whole false = refl
+
+and_none : (a : Bool) → a && false ≡ false
+and_none true = refl
+and_none false = refl
 
 pub if_some : {A : Type 0} {P Q : A → Type 0} (o : Option A) → ((a : A) → P a → Q a) → IfSome o P → IfSome o Q
 if_some (Some a) from h = from a h
@@ -84,29 +88,31 @@ module _ (known : KnownImages) (text : List ℕ) where
       → length known.simple.now ≡ 0x3000 → (listed known.simple.now code).bytes ≢ 0
       → take (at + count) after ≡ take at before ++ bytes_of count (listed known.simple.now code)
       → drop (at + count) after ≡ drop (at + count) before → length after ≡ length before
-      → AreMade known text before at apart → AreMade known text after (at + count) (apart && true)
+      → AreMade known text before at apart → AreMade known text after (at + count) apart
   made_image at count code apart before after here within size is_known written behind same m =
       let image = listed known.simple.now code in
       let few : count ≤ 3 = omega (arith, here.size, encoded_few code (omega (arith, within, size))) in
-      made_more at count code apart true before after (bytes_of count image) here
+      subst (λ (a : Bool). AreMade known text after (at + count) a) (and_whole apart)
+      (made_more at count code apart true before after (bytes_of count image) here
       (record {
         size = length-take-le count (image.bytes % 256 ∷ image.bytes / 256 % 256 ∷ image.bytes / 65536 % 256 ∷ []) few ∙ sym here.size;
         is = inl (record { within = within; known = is_known; bytes = ap (λ n. bytes_of n image) (sym here.size) });
       })
-      written behind same m
+      written behind same m)
 
   -- itself, which stands there
   pub made_kept : (at count code : ℕ) (apart : Bool) (room : List ℕ) → IsCodeAt text at count code → 1 < count → IsMarked known.own.now code
-      → AreMade known text room at apart → AreMade known text room (at + count) (apart && false)
+      → AreMade known text room at apart → AreMade known text room (at + count) false
   made_kept at count code apart room here several marked m =
       let there : take count (drop at room) ≡ encode_utf8 code =
       ap (take count) (m.behind ∙ ap (map to_ascii_lowercase) here.begins ∙ map-append to_ascii_lowercase (encode_utf8 code) (drop (at + count) text))
       ∙ take_at (map to_ascii_lowercase (encode_utf8 code)) (map to_ascii_lowercase (drop (at + count) text)) count
       (ap length (lower_encoded code high) ∙ here.size)
       ∙ lower_encoded code high in
-      made_more at count code apart false room room (encode_utf8 code) here
+      subst (λ (a : Bool). AreMade known text room (at + count) a) (and_none apart)
+      (made_more at count code apart false room room (encode_utf8 code) here
       (record { size = refl; is = inr (refl, record { marked = marked; bytes = refl }) })
-      (take-add at count room ∙ ap (λ l. take at room ++ l) there) refl refl m
+      (take-add at count room ∙ ap (λ l. take at room ++ l) there) refl refl m)
     where
       high : 128 ≤ code
       high = several_high code (omega (arith, here.size, several))
@@ -134,8 +140,7 @@ module _ (known : KnownImages) (text : List ℕ) where
         let byte : bytes_of 1 image ≡ get_or room at 0 ∷ [] = ap (λ x. x ∷ []) (omega (arith, is, small, there)) in
         let written : take (at + 1) room ≡ take at room ++ bytes_of 1 image =
         take_more room at 0 (omega (arith, m.size, within)) ∙ ap (λ l. take at room ++ l) (sym byte) in
-        subst (λ (a : Bool). AreMade known text room (at + 1) a) (and_whole apart)
-        (made_image at 1 b apart room room here (omega (arith, ascii, size)) size (λ none. omega (arith, is, none)) written refl refl m)
+        made_image at 1 b apart room room here (omega (arith, ascii, size)) size (λ none. omega (arith, is, none)) written refl refl m
 
     -- those up to the next byte that begins a character of several bytes
     pub made_bytes : (n at : ℕ) (apart : Bool) (room : List ℕ) → at + n ≤ length text → ((k : ℕ) → k < n → get_or text (at + k) 0 < 192)

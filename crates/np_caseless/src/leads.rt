@@ -1,5 +1,5 @@
 //! The bytes that begin characters of several bytes (The Unicode Standard, table 3-6), told of many at once.
-ghost use Rattle.std.specs.Prelude.{◌≡◌, ◌+◌, ◌<◌, ◌≤◌, ℕ, length};
+ghost use Rattle.std.specs.Prelude.{◌≡◌, ◌≢◌, ◌+◌, ◌<◌, ◌≤◌, ℕ, length};
 ghost use Rattle.std.specs.Int.{bit_at};
 ghost use Rattle.np_caseless.specs.inside.SimpleTexts.{AreLeads};
 
@@ -45,14 +45,12 @@ pub(crate) fn lowest(bits: u64) -> usize
     (bits.trailing_zeros() & 63) as usize
 }
 
-/// The bits from a place on.
+/// The bits without the lowest that is set.
 #[inline(always)]
-pub(crate) fn bits_from(bits: u64, place: usize) -> u64
-    ensures before { (k : ℕ) → k < place → bit_at result k ≡ 0 }
-    ensures behind { (k : ℕ) → place ≤ k → bit_at result k ≡ bit_at bits k }
+pub(crate) fn without_lowest(bits: u64) -> u64
+    requires { 0 < bits }
+    ensures off { (t : ℕ) → bit_at bits t ≡ 1 → ((k : ℕ) → k < t → bit_at bits k ≡ 0) → bit_at result t ≡ 0 }
+    ensures kept { (t : ℕ) → bit_at bits t ≡ 1 → ((k : ℕ) → k < t → bit_at bits k ≡ 0) → (k : ℕ) → k ≢ t → bit_at result k ≡ bit_at bits k }
 {
-    if place >= LANES {
-        return 0;
-    }
-    bits >> place << place
+    bits & (bits - 1)
 }

@@ -2,12 +2,12 @@
 //!
 //! All of ASCII is made lowercase at once before that, and what doesn't change is there already. So only the bytes are looked at
 //! that begin characters of several bytes; which these are is told of 64 bytes at once, without a branch for each.
-ghost use Rattle.std.specs.Prelude.{◌≡◌, ◌≢◌, ◌++◌, ◌+◌, ◌&&◌, ◌<◌, ◌≤◌, ℕ, Bool, List, false, drop, encode_utf8, get_or, length, take, true, IfNone, IfSome, IsUtf8};
+ghost use Rattle.std.specs.Prelude.{◌≡◌, ◌≢◌, ◌++◌, ◌+◌, ◌<◌, ◌≤◌, ℕ, Bool, List, drop, encode_utf8, get_or, length, take, true, IfNone, IfSome, IsUtf8};
 ghost use Rattle.np_caseless.specs.inside.SimpleImages.{IsCodeAt, LowerAscii, bytes_of, listed};
 ghost use Rattle.np_caseless.specs.inside.SimpleTexts.{AreMade};
 
 use crate::characters::{Character, char_at, three_at, two_at};
-use crate::leads::{LANES, bits_from, leads_from, lowest};
+use crate::leads::{LANES, leads_from, lowest, without_lowest};
 use crate::marks::is_marked_code;
 use crate::simple_images::SimpleImage;
 
@@ -29,15 +29,6 @@ pub(crate) struct MadeFront {
     pub(crate) count: usize,
     /// Whether what was made is its own form, and assigned. Else that is to be asked.
     pub(crate) apart: bool,
-}
-
-/// What was made of a character.
-#[derive(Clone, Copy)]
-struct MadeCharacter {
-    /// How many bytes it has.
-    count: usize,
-    /// Whether what was made is known to stand apart.
-    apart: bool,
 }
 
 /// Writes the bytes of an image to where a character of as many stands.
@@ -81,26 +72,24 @@ fn may_compose(code: usize) -> bool {
         && ((0x300..0x370).contains(&code) || (0x1100..0x1200).contains(&code) || code >= 0x3099)
 }
 
-/// Writes what stands for a character of several bytes to where it stands: its image, or itself, which stands there already. None
-/// where nothing is known of it, or it most likely composes.
+/// Goes on with what stands for a character of several bytes, written to where it stands: its image, or itself, which stands there
+/// already. None where nothing is known of it, or it most likely composes.
 #[inline(always)]
-fn make(known: KnownImages<'_>, here: Character, room: &mut [u8]) -> Option<MadeCharacter>
+fn make(known: KnownImages<'_>, here: Character, apart: bool, room: &mut [u8]) -> Option<MadeFront>
     requires size { length known.simple.now ≡ 0x3000 }
     requires within { here.count ≤ 2 → here.code < 0x3000 }
     requires several { 1 < here.count }
     requires encoded { length (encode_utf8 here.code) ≡ here.count }
     requires room { here.at + here.count ≤ length room.now }
-    ensures count { IfSome result (λ made. made.count ≡ here.count) }
-    ensures made { IfSome result (λ made. (text : List ℕ) (apart : Bool) → IsCodeAt text here.at here.count here.code
-        → AreMade known.entry text room.old here.at apart → AreMade known.entry text room.new (here.at + made.count) (apart && made.apart)) }
+    ensures count { IfSome result (λ made. made.count ≡ here.at + here.count) }
+    ensures made { IfSome result (λ made. (text : List ℕ) → IsCodeAt text here.at here.count here.code
+        → AreMade known.entry text room.old here.at apart → AreMade known.entry text room.new made.count made.apart) }
     ensures kept { IfNone result (room.new ≡ room.old) }
 {
+    let count = here.at + here.count;
     if let Some(image) = image_at(known.simple, here) {
         put_image(image, here, room);
-        return Some(MadeCharacter {
-            count: here.count,
-            apart: true,
-        });
+        return Some(MadeFront { count, apart });
     }
     if may_compose(here.code) {
         return None;
@@ -108,63 +97,39 @@ fn make(known: KnownImages<'_>, here: Character, room: &mut [u8]) -> Option<Made
     if !is_marked_code(known.own, here.code) {
         return None;
     }
-    Some(MadeCharacter {
-        count: here.count,
+    Some(MadeFront {
+        count,
         apart: false,
     })
 }
 
-/// Where the characters of three bytes end that stand at a place one behind another, and are their own images and no others: most
-/// of a text of ideographs or of Hangul is made of these.
+/// Goes on with what stands for the character behind a front, one of several bytes. None where nothing is known of it.
 #[inline(always)]
-fn own_threes_end(known: KnownImages<'_>, bytes: &[u8], from: usize) -> usize
-    requires place { from ≤ length bytes.now }
-    requires utf8 { IsUtf8 (drop from bytes.now) }
-    ensures later { from ≤ result }
-    ensures within { result ≤ length bytes.now }
-    ensures made { (room : List ℕ) → AreMade known.entry bytes.now room from false → AreMade known.entry bytes.now room result false }
-{
-    let mut at = from;
-    'codes: while at < bytes.len() && bytes[at] / 16 == 14 {
-        let code = three_at(bytes, at).code;
-        if code < known.simple.len() || may_compose(code) || !is_marked_code(known.own, code) {
-            return at;
-        }
-        at += 3;
-    }
-    at
-}
-
-/// Writes what stands for the character that begins at a place, one of several bytes, and for what follows it where that is as said.
-/// None where nothing is known of it.
-#[inline(always)]
-fn make_at(known: KnownImages<'_>, text: &str, at: usize, room: &mut [u8]) -> Option<MadeCharacter>
+fn make_at(
+    known: KnownImages<'_>,
+    text: &str,
+    front: MadeFront,
+    room: &mut [u8],
+) -> Option<MadeFront>
     requires size { length known.simple.now ≡ 0x3000 }
-    requires place { at < length text.now }
-    requires lead_byte { 192 ≤ get_or text.now at 0 }
-    requires utf8 { IsUtf8 (drop at text.now) }
+    requires place { front.count < length text.now }
+    requires lead_byte { 192 ≤ get_or text.now front.count 0 }
+    requires utf8 { IsUtf8 (drop front.count text.now) }
     requires room { length room.now ≡ length text.now }
-    ensures some { IfSome result (λ made. 0 < made.count) }
-    ensures within { IfSome result (λ made. at + made.count ≤ length text.now) }
-    ensures made { IfSome result (λ made. (apart : Bool) → AreMade known.entry text.now room.old at apart
-        → AreMade known.entry text.now room.new (at + made.count) (apart && made.apart)) }
+    ensures later { IfSome result (λ made. front.count < made.count) }
+    ensures inside { IfSome result (λ made. (j : ℕ) → front.count < j → j < made.count → get_or text.now j 0 < 192) }
+    ensures made { IfSome result (λ made. AreMade known.entry text.now room.old front.count front.apart
+        → AreMade known.entry text.now room.new made.count made.apart) }
     ensures kept { IfNone result (room.new ≡ room.old) }
 {
     let bytes = text.as_bytes();
-    let lead_byte = bytes[at];
+    let lead_byte = bytes[front.count];
     if lead_byte / 32 == 6 {
-        make(known, two_at(bytes, at), room)
+        make(known, two_at(bytes, front.count), front.apart, room)
     } else if lead_byte / 16 == 14 {
-        let made = make(known, three_at(bytes, at), room)?;
-        if made.apart {
-            return Some(made);
-        }
-        Some(MadeCharacter {
-            count: own_threes_end(known, bytes, at + made.count) - at,
-            apart: false,
-        })
+        make(known, three_at(bytes, front.count), front.apart, room)
     } else {
-        make(known, char_at(text, at)?, room)
+        make(known, char_at(text, front.count)?, front.apart, room)
     }
 }
 
@@ -181,19 +146,15 @@ fn make_next(known: KnownImages<'_>, text: &str, front: MadeFront, room: &mut [u
     let mut made = front;
     let mut left = leads_from(bytes, front.count);
     'leads: while left != 0 {
-        let bit = lowest(left);
-        let at = front.count + bit;
-        let Some(code) = make_at(known, text, at, room) else {
-            return MadeFront {
-                count: at,
-                apart: made.apart,
-            };
+        let here = MadeFront {
+            count: front.count + lowest(left),
+            apart: made.apart,
         };
-        left = bits_from(left, at + code.count - front.count);
-        made = MadeFront {
-            count: at + code.count,
-            apart: made.apart && code.apart,
+        let Some(next) = make_at(known, text, here, room) else {
+            return here;
         };
+        left = without_lowest(left);
+        made = next;
     }
     MadeFront {
         count: bytes.len().min(made.count.max(front.count + LANES)),

@@ -1,6 +1,5 @@
-use Rattle.std.proofs.Common.{◌+◌, ◌∙◌, IsUtf8, drop, subst, sym, arith}
-use Rattle.np_forms.proofs.Words.{IsUtf8-past_char}
-use Rattle.np_caseless.proofs.CharacterLemmas.{encoded_two, several_bytes}
+use Rattle.std.proofs.Common.{◌<◌, get_or, subst, arith}
+use Rattle.np_caseless.proofs.CharacterLemmas.{encoded_two, inside_low, several_bytes}
 use Rattle.np_caseless.proofs.MadeLemmas.{if_some}
 use Rattle.np_caseless.proofs.simple_texts.make_at.Goals as goal
 
@@ -13,20 +12,36 @@ pub make-requires-else-lead_byte-eq14-clause-several : goal.make-requires-else-l
 make-requires-else-lead_byte-eq14-clause-several c =
     let here = c.in_ok-char_at.field-0 in
     let text = c.args.text.now in
-    several_bytes text c.args.at here.count here.code c.in_ok-char_at.ensures.here (omega (arith, c.requires.lead_byte))
+    several_bytes text c.args.front.count here.count here.code c.in_ok-char_at.ensures.here (omega (arith, c.requires.lead_byte))
 
-pub returns-in_ok-char_at-clause-some : goal.returns-in_ok-char_at-clause-some
-returns-in_ok-char_at-clause-some c =
+pub returns-in_ok-char_at-clause-later : goal.returns-in_ok-char_at-clause-later
+returns-in_ok-char_at-clause-later c =
     let here = c.in_ok-char_at.field-0 in
     let text = c.args.text.now in
-    let several = several_bytes text c.args.at here.count here.code c.in_ok-char_at.ensures.here (omega (arith, c.requires.lead_byte)) in
-    if_some c.make-else-lead_byte-eq14.result (λ made is. omega (arith, is, several)) c.make-else-lead_byte-eq14.ensures.count
+    let several = several_bytes text c.args.front.count here.count here.code c.in_ok-char_at.ensures.here (omega (arith, c.requires.lead_byte)) in
+    if_some c.make-else-lead_byte-eq14.result (λ made is. omega (arith, is, several, c.in_ok-char_at.ensures.place)) c.make-else-lead_byte-eq14.ensures.count
 
-pub own_threes_end-requires-clause-utf8 : goal.own_threes_end-requires-clause-utf8
-own_threes_end-requires-clause-utf8 c =
-    let bytes = c.as_bytes-bytes.result.now in
-    let at = c.args.at in
-    let here = c.three_at.ensures.here in
-    let utf8 = subst (λ l. IsUtf8 (drop at l)) (sym c.as_bytes-bytes.ensures.value) c.requires.utf8 in
-    subst (λ n. IsUtf8 (drop (at + n) bytes)) (sym (c.in_ok-made.ensures.count ∙ c.three_at.ensures.count))
-    (IsUtf8-past_char (drop at bytes) (drop (at + 3) bytes) c.three_at.result.code utf8 here.begins)
+pub returns-then-lead_byte-eq6-clause-inside : goal.returns-then-lead_byte-eq6-clause-inside
+returns-then-lead_byte-eq6-clause-inside c =
+    let bytes = c.as_bytes-bytes in
+    let low = inside_low bytes.result.now c.args.front.count 2 c.two_at.result.code c.two_at.ensures.here in
+    if_some c.make.result
+    (λ made is j more less.
+    subst (λ l. get_or l j 0 < 192) bytes.ensures.value (low j more (omega (arith, less, is, c.two_at.ensures.count, c.two_at.ensures.place))))
+    c.make.ensures.count
+
+pub returns-then-lead_byte-eq14-clause-inside : goal.returns-then-lead_byte-eq14-clause-inside
+returns-then-lead_byte-eq14-clause-inside c =
+    let bytes = c.as_bytes-bytes in
+    let low = inside_low bytes.result.now c.args.front.count 3 c.three_at.result.code c.three_at.ensures.here in
+    if_some c.make-then-lead_byte-eq14.result
+    (λ made is j more less.
+    subst (λ l. get_or l j 0 < 192) bytes.ensures.value (low j more (omega (arith, less, is, c.three_at.ensures.count, c.three_at.ensures.place))))
+    c.make-then-lead_byte-eq14.ensures.count
+
+pub returns-in_ok-char_at-clause-inside : goal.returns-in_ok-char_at-clause-inside
+returns-in_ok-char_at-clause-inside c =
+    let here = c.in_ok-char_at.field-0 in
+    let low = inside_low c.args.text.now c.args.front.count here.count here.code c.in_ok-char_at.ensures.here in
+    if_some c.make-else-lead_byte-eq14.result (λ made is j more less. low j more (omega (arith, less, is, c.in_ok-char_at.ensures.place)))
+    c.make-else-lead_byte-eq14.ensures.count

@@ -1,4 +1,4 @@
-use Rattle.std.proofs.Common.{◌+◌, ◌&&◌, Bool, ap, length, subst, sym, ◌∙◌, arith}
+use Rattle.std.proofs.Common.{◌+◌, ap, length, subst, sym, arith}
 use Rattle.np_caseless.specs.inside.SimpleTexts.{AreLeads, AreMade}
 use Rattle.np_caseless.proofs.LeadLemmas.{leads_past}
 use Rattle.np_caseless.proofs.MadeLemmas.{reached, reached_all}
@@ -13,13 +13,13 @@ leads-init c =
 
 pub make_at-requires-clause-utf8 : goal.make_at-requires-clause-utf8
 make_at-requires-clause-utf8 c =
-    let lowest = c.lowest-bit in
+    let lowest = c.lowest in
     (reached c.args.known c.args.text.now c.requires.lowers c.requires.size c.leads.made.count c.args.front.count (c.args.front.count + 64) c.leads.left
     lowest.result c.leads.made.apart c.leads.room c.leads.invariant.1 lowest.ensures.set lowest.ensures.first c.leads.invariant.2 c.leads.invariant.0).reads.utf8
 
 pub returns-in_default-clause-made : goal.returns-in_default-clause-made
 returns-in_default-clause-made c =
-    let lowest = c.lowest-bit in
+    let lowest = c.lowest in
     let known = c.args.known in
     let text = c.args.text.now in
     let from = c.args.front.count in
@@ -28,43 +28,23 @@ returns-in_default-clause-made c =
     (reached known text c.requires.lowers c.requires.size c.leads.made.count from (from + 64) c.leads.left
     lowest.result apart c.leads.room c.leads.invariant.1 lowest.ensures.set lowest.ensures.first c.leads.invariant.2 c.leads.invariant.0)
 
-pub leads-preserved-then-made : goal.leads-preserved-then-made
-leads-preserved-then-made c =
-    let lowest = c.lowest-bit in
-    let known = c.args.known in
-    let text = c.args.text.now in
-    let from = c.args.front.count in
-    let at = from + lowest.result in
-    let code = c.in-Some.code in
-    let apart = c.leads.made.apart in
-    let leads = c.leads.invariant.1 in
-    let before =
-    reached known text c.requires.lowers c.requires.size c.leads.made.count from (from + 64) c.leads.left
-    lowest.result apart c.leads.room leads lowest.ensures.set lowest.ensures.first c.leads.invariant.2 c.leads.invariant.0 in (
-      subst (λ (b : Bool). AreMade known text c.make_at.new.room (at + code.count) (b && code.apart)) c.if-made.true (c.in-Some.ensures.made apart before),
-      leads_past text c.leads.made.count (at + code.count) from (from + 64) c.leads.left c.bits_from-left.result leads c.leads.invariant.2
-          (omega (arith, leads.behind lowest.result lowest.ensures.set)) c.bits_from-left.ensures.before c.bits_from-left.ensures.behind,
-      omega arith,
-    )
-
 pub leads-preserved : goal.leads-preserved
 leads-preserved c =
-    let lowest = c.lowest-bit in
+    let lowest = c.lowest in
     let known = c.args.known in
     let text = c.args.text.now in
     let from = c.args.front.count in
-    let at = from + lowest.result in
-    let code = c.in-Some.code in
-    let apart = c.leads.made.apart in
+    let next = c.in-Some in
+    let without = c.without_lowest-left in
     let leads = c.leads.invariant.1 in
     let before =
     reached known text c.requires.lowers c.requires.size c.leads.made.count from (from + 64) c.leads.left
-    lowest.result apart c.leads.room leads lowest.ensures.set lowest.ensures.first c.leads.invariant.2 c.leads.invariant.0 in
-    let same = ap (λ b. b && code.apart) c.if-made.false ∙ sym c.if-made.false in (
-      subst (λ (b : Bool). AreMade known text c.make_at.new.room (at + code.count) b) same (c.in-Some.ensures.made apart before),
-      leads_past text c.leads.made.count (at + code.count) from (from + 64) c.leads.left c.bits_from-left.result leads c.leads.invariant.2
-          (omega (arith, leads.behind lowest.result lowest.ensures.set)) c.bits_from-left.ensures.before c.bits_from-left.ensures.behind,
-      omega arith,
+    lowest.result c.leads.made.apart c.leads.room leads lowest.ensures.set lowest.ensures.first c.leads.invariant.2 c.leads.invariant.0 in (
+      next.ensures.made before,
+      leads_past text c.leads.made.count next.next.count from (from + 64) c.leads.left without.result lowest.result leads lowest.ensures.set
+          (without.ensures.off lowest.result lowest.ensures.set lowest.ensures.first)
+          (without.ensures.kept lowest.result lowest.ensures.set lowest.ensures.first) lowest.ensures.first next.ensures.later next.ensures.inside,
+      omega (arith, next.ensures.later),
     )
 
 pub returns-clause-made : goal.returns-clause-made
