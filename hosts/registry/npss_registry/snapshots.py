@@ -9,8 +9,8 @@ from collections.abc import Iterable, Iterator, Sequence
 from typing import NamedTuple, Optional
 
 from npss_registry import records
-from npss_registry.errors import LogBroken
-from npss_registry.logs import Log
+from npss_registry.errors import LogAway, LogBroken, RegistryError
+from npss_registry.logs import Log, record_at
 from npss_registry.records import Name, Snapshot, SnapshotSum
 
 # A part has so many characters before it is packed, and one name more: a server takes it in one request.
@@ -45,7 +45,8 @@ def keep(log: Log, shard: int, names: Iterable[Name], snapshot: SnapshotSum) -> 
 
 
 def load(log: Log, shard: int, place: int) -> Kept:
-    """What was registered at the snapshot at a place. LogBroken where it isn't there, or isn't what its sum tells."""
+    """What was registered at the snapshot at a place. LogBroken where it isn't there, or isn't what its sum tells; LogAway where the log
+    is trimmed meanwhile: who asks again finds what it begins with then."""
     names: list[Name] = []
     try:
         for part in _found(log, shard, place):
@@ -54,7 +55,7 @@ def load(log: Log, shard: int, place: int) -> Kept:
                 break
             names += (_name(*row) for row in json.loads(zlib.decompress(part)))
         else:
-            raise LogBroken(place, "what was registered there is missing beside the log")
+            raise _missing(log, shard, place)
     except (TypeError, ValueError, zlib.error) as error:
         raise LogBroken(place, f"what stands beside the log is no part of what was registered there: {error!r}") from error
     if not isinstance(snapshot, SnapshotSum) or (snapshot.place, snapshot.names, snapshot.sum) != (place, *records.sum_of_names(names)):
@@ -69,6 +70,13 @@ def _found(log: Log, shard: int, place: int) -> Iterator[bytes]:
     while (part := log.kept(shard, place, number)) is not None:
         yield part
         number += 1
+
+
+def _missing(log: Log, shard: int, place: int) -> RegistryError:
+    """Why what was registered at a snapshot isn't there, whose record was."""
+    if record_at(log, shard, place) is None:
+        return LogAway(f"the log: the snapshot at place {place} is gone since it was read, as where the log is trimmed meanwhile; ask again")
+    return LogBroken(place, "what was registered there is missing beside the log")
 
 
 def _parts(names: Iterable[Name]) -> Iterator[bytes]:

@@ -151,6 +151,32 @@ class Snapshots(TrimCase):
         self.assertGreater(away, 3)
         self.assertEqual(self.judged(path), [])
 
+    def test_a_log_that_is_trimmed_while_a_node_begins(self):
+        path, _ = self.written()
+        self.trimmed(path)
+        again, calls = SqliteLog.kept, []
+
+        def kept(log, shard, place, number):
+            calls.append(number)
+            if len(calls) == count:
+                with mock.patch.object(SqliteLog, "kept", again):
+                    self.trimmed(path)
+            return again(log, shard, place, number)
+
+        for count in (1, 2):
+            calls.clear()
+            node = self.open(self.store(f"begun {count}"))
+            with mock.patch.object(SqliteLog, "kept", kept), self.assertRaisesRegex(LogAway, "ask again"):
+                node.catch_up()
+            # Nothing of it was taken, and the next call begins where the log does now.
+            self.assertEqual(self.names(node.store.path), [])
+            node.catch_up()
+            self.assertEqual(self.names(node.store.path), self.names(path))
+            calls.clear()
+            with mock.patch.object(SqliteLog, "kept", kept), self.assertRaisesRegex(LogAway, "ask again"):
+                self.judged(path)
+            self.assertEqual(self.judged(path), [])
+
     def test_trims_while_others_claim(self):
         self.setup = Setup("nfc", 5000, 2, False)
         path, other = self.store("one"), self.node("other", setup=Setup("nfc", 5000, 2, False))
