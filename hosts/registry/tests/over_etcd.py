@@ -69,13 +69,13 @@ class EtcdCase(Case):
 class EtcdReads(EtcdCase):
     """A log that is trimmed while somebody reads it."""
 
-    def trimmed_meanwhile(self, place):
+    def trimmed_meanwhile(self, place, more=(b"more",)):
         """A log of records by themselves, and what one read answers that begins at its front, where it is trimmed to a place behind the
         first batches."""
         log, other = self.opened(), self.opened()
         log.begin([(0, b"first")])
         for count in range(30):
-            log.append([(0, b"%d" % count), (0, b"%d more" % count)])
+            log.append([(0, b"%d" % count), *((0, body) for body in more)])
         asked, pieces = other._range, []
 
         def trims(key, to=None, limit=1):
@@ -102,15 +102,22 @@ class EtcdReads(EtcdCase):
                 # The next one begins where the log does.
                 self.assertEqual([at for at, _ in log.read(0, len(rows), 99)], list(range(place, 62)))
 
+    def test_one_record_that_was_trimmed(self):
+        log, rows = self.trimmed_meanwhile(10, more=())
+        self.assertEqual([at for at, _ in rows], list(range(1, 9)))
+        self.assertEqual([at for at, _ in log.read(0, 8, 99)], list(range(10, 32)))
+
     def test_a_batch_that_is_missing_in_the_midst_is_told(self):
         log = self.opened()
         log.begin([(0, b"first")])
         for count in range(30):
             log.append([(0, b"%d" % count)])
-        log._cluster.ask("/v3/kv/deleterange", {"key": spelled(f"{self.prefix}/batch/0000/{20:016x}")})
-        with self.assertRaises(LogBroken) as raised:
-            self.opened().read(0, 0, 99)
-        self.assertEqual(raised.exception.place, 20)
+        # That within a piece of a read, and then that behind its first piece.
+        for place in (20, 9):
+            log._cluster.ask("/v3/kv/deleterange", {"key": spelled(f"{self.prefix}/batch/0000/{place:016x}")})
+            with self.assertRaises(LogBroken) as raised:
+                self.opened().read(0, 0, 99)
+            self.assertEqual(raised.exception.place, place)
 
 
 class EtcdFaults(EtcdCase):

@@ -224,11 +224,13 @@ class PostgresFaults(PostgresCase):
                 known.append(logs[0].append([(0, b"20")])[0])
         old = self.servers.promote()
         try:
+            found = []
             for log in logs:
                 self.goes_on(log, b"behind")
-                found = [place for place, body in log.read(0, 0, 1_000_000) if body.isdigit()]
-                # The last one got no answer, so it isn't known whether it was written.
-                self.assertIn(found, (known, [*known, known[-1] + 1]))
+                found.append([place for place, body in log.read(0, 0, 1_000_000) if body.isdigit()])
+            # The last one got no answer, so it isn't known whether it was written; but all see the same.
+            self.assertIn(found[0], (known, [*known, known[-1] + 1]))
+            self.assertEqual(found[0], found[1])
         finally:
             self.servers.clone(old)
             waited(self.servers.synchronous)

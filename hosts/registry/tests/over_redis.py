@@ -85,8 +85,11 @@ class Redis(Case):
 class RedisReads(Case):
     """A log that is trimmed while somebody reads it."""
 
-    def test_what_was_read_before_a_trim_is_answered(self):
-        server = RedisServer(self.folder)
+    def trimmed_meanwhile(self, place):
+        """A log, and the places that one read answers where it is trimmed to a place behind the first 200."""
+        folder = self.folder / str(place)
+        folder.mkdir()
+        server = RedisServer(folder)
         self.addCleanup(server.close)
         log, other = open_log(server.log, "make"), open_log(server.log)
         self.addCleanup(log.close)
@@ -98,17 +101,22 @@ class RedisReads(Case):
         def trims(*words, **more):
             pieces.append(asked(*words, **more))
             if len(pieces) == 2:
-                log.trim(0, 300)
+                log.trim(0, place)
             return pieces[-1]
 
         with patch.object(other._server, "xrange", trims):
-            rows = other.read(0, 0, 1000)
-        self.assertEqual(len(pieces), 3)
-        places = [at for at, _ in rows]
-        self.assertEqual(places, list(range(1, len(rows) + 1)))
-        self.assertTrue(0 < len(rows) < 300)
-        # The next one begins where the log does.
-        self.assertEqual([at for at, _ in log.read(0, len(rows), 1000)], list(range(300, 351)))
+            return log, [at for at, _ in other.read(0, 0, 1000)]
+
+    def test_what_was_read_before_a_trim_is_answered(self):
+        for place in (202, 300):
+            with self.subTest(place=place):
+                log, places = self.trimmed_meanwhile(place)
+                self.assertEqual(places, list(range(1, 201)))
+                # The next one begins where the log does.
+                self.assertEqual([at for at, _ in log.read(0, 200, 1000)], list(range(place, 351)))
+
+    def test_a_read_goes_on_where_nothing_is_left_out(self):
+        self.assertEqual(self.trimmed_meanwhile(201)[1], list(range(1, 351)))
 
 
 @unittest.skipUnless(is_here("redis"), "redis-server or python3-redis is not here")
